@@ -1,0 +1,14 @@
+use Rattle.access.specs.Rights.{opens}
+use borrow.Author.Needs.{needs}
+use Rattle.access.proofs.Session.opens.Statement.{statement}
+use Rattle.access.proofs.Session.opens.Tie as tie
+
+key-requires : tie.Need-key-requires
+key-requires c κs = search needs
+
+returns : tie.Need-returns
+unfolding opens
+returns c = cc
+
+pub opens-spec : {M : Type 1} → statement M
+opens-spec = tie.close (tie.spec key-requires returns)

@@ -1,0 +1,77 @@
+-- Access rights: four nibbles from the top, Read, Write, ReadWrite, Change. 0 to 4 is a key, Eh is free, Fh is never.
+use Prim.Native.Nat.{ℕ, _/_, _%_}
+use mathlib.Core.Bool.{Bool, true, false, not, _&&_, _||_}
+use lib.Dec.{eqb, leb}
+use Rattle.tables.specs.Choice.{pick}
+use Rattle.access.specs.declared.Session.{Session}
+use Rattle.access.specs.declared.Session.the-variants.{Nobody, Key}
+use Rattle.access.specs.declared.Access.{Access}
+use Rattle.access.specs.declared.Access.the-variants.{Never, NotGranted, Granted}
+
+abbrev pub free : ℕ
+free = 0xE
+
+abbrev pub never : ℕ
+never = 0xF
+
+-- ---- a file's 16 bits
+
+abbrev pub readOf : ℕ → ℕ
+readOf x = x / 4096 % 16
+
+abbrev pub writeOf : ℕ → ℕ
+writeOf x = x / 256 % 16
+
+abbrev pub readWriteOf : ℕ → ℕ
+readWriteOf x = x / 16 % 16
+
+abbrev pub changeOf : ℕ → ℕ
+changeOf x = x % 16
+
+-- no nibble is 5 to Dh
+abbrev pub nibbleSound : ℕ → Bool
+nibbleSound n = leb n 4 || leb free n
+
+unfoldable pub rightsSound : ℕ → Bool
+rightsSound x = nibbleSound (readOf x) && nibbleSound (writeOf x) && nibbleSound (readWriteOf x) && nibbleSound (changeOf x)
+
+-- ---- the session: none, or a key's number
+
+-- the key number that a session names, or none: 16, which is no nibble
+abbrev pub keyOf : Session → ℕ
+keyOf Nobody = 16
+keyOf (Key k) = k
+
+-- none, or a key 0 to 4
+abbrev pub sessionSound : Session → Bool
+sessionSound Nobody = true
+sessionSound (Key k) = leb k 4
+
+-- ---- the decision, where Read grants if byRead, Write if byWrite, and ReadWrite always
+
+-- every condition that could grant is Fh
+unfoldable pub sealed : ℕ → Bool → Bool → Bool
+sealed x byRead byWrite = (not byRead || eqb (readOf x) never) && (not byWrite || eqb (writeOf x) never) && eqb (readWriteOf x) never
+
+-- a condition is free or equals the session key
+unfoldable pub opens : Session → ℕ → Bool
+opens s n = eqb n free || eqb n (keyOf s)
+
+unfoldable pub granted : ℕ → Session → Bool → Bool → Bool
+granted x s byRead byWrite = (byRead && opens s (readOf x)) || (byWrite && opens s (writeOf x)) || opens s (readWriteOf x)
+
+-- always: the command is granted whatever the session is, unless sealed
+unfoldable pub accessOf : ℕ → Session → Bool → Bool → Bool → Access
+accessOf x s byRead byWrite always = pick (sealed x byRead byWrite) Never (pick (always || granted x s byRead byWrite) Granted NotGranted)
+
+-- ---- what each answer says of places 8 and 9
+
+abbrev pub isNever : Access → Bool
+isNever Never = true
+isNever NotGranted = false
+isNever Granted = false
+
+abbrev pub isNotGranted : Access → Bool
+isNotGranted Never = false
+isNotGranted NotGranted = true
+isNotGranted Granted = false

@@ -1,0 +1,145 @@
+// Access rights, the session, and the access decision.
+ghost use mathlib.Core.Path.{_≡_};
+ghost use mathlib.Core.Bool.{_&&_};
+ghost use Rattle.access.specs.Rights.{readOf, writeOf, readWriteOf, changeOf, nibbleSound, rightsSound, keyOf, sessionSound, sealed, opens, granted, accessOf, isNever, isNotGranted};
+
+pub enum Session {
+    Nobody,
+    Key(u8),
+}
+
+pub enum Access {
+    Never,
+    NotGranted,
+    Granted,
+}
+
+fn read_of(x: u16) -> u8
+    ensures { λ r. ⌜ r ≡ readOf x ⌝ }
+{
+    (x / 4096 % 16) as u8
+}
+
+fn write_of(x: u16) -> u8
+    ensures { λ r. ⌜ r ≡ writeOf x ⌝ }
+{
+    (x / 256 % 16) as u8
+}
+
+fn read_write_of(x: u16) -> u8
+    ensures { λ r. ⌜ r ≡ readWriteOf x ⌝ }
+{
+    (x / 16 % 16) as u8
+}
+
+fn change_of(x: u16) -> u8
+    ensures { λ r. ⌜ r ≡ changeOf x ⌝ }
+{
+    (x % 16) as u8
+}
+
+fn nibble_is_sound(n: u8) -> bool
+    ensures { λ r. ⌜ r ≡ nibbleSound n ⌝ }
+{
+    (n <= 4) | (0xE <= n)
+}
+
+fn nibbles_are_sound(a: u8, b: u8, c: u8, d: u8) -> bool
+    ensures { λ r. ⌜ r ≡ (nibbleSound a && nibbleSound b && nibbleSound c && nibbleSound d) ⌝ }
+{
+    nibble_is_sound(a) & nibble_is_sound(b) & nibble_is_sound(c) & nibble_is_sound(d)
+}
+
+// Whether no nibble of a file's rights is 5 to Dh.
+pub fn rights_are_sound(x: u16) -> bool
+    ensures { λ r. ⌜ r ≡ rightsSound x ⌝ }
+{
+    let r = read_of(x);
+    let w = write_of(x);
+    let rw = read_write_of(x);
+    let ch = change_of(x);
+    nibbles_are_sound(r, w, rw, ch)
+}
+
+fn is_sealed(x: u16, by_read: bool, by_write: bool) -> bool
+    ensures { λ r. ⌜ r ≡ sealed x «by_read» «by_write» ⌝ }
+{
+    let r = read_of(x);
+    let w = write_of(x);
+    let rw = read_write_of(x);
+    (!by_read | (r == 0xF)) & (!by_write | (w == 0xF)) & (rw == 0xF)
+}
+
+fn is_granted(x: u16, session: Session, by_read: bool, by_write: bool) -> bool
+    ensures { λ r. ⌜ r ≡ granted x session «by_read» «by_write» ⌝ }
+{
+    let r = session.opens(read_of(x));
+    let w = session.opens(write_of(x));
+    let rw = session.opens(read_write_of(x));
+    (by_read & r) | (by_write & w) | rw
+}
+
+// Whether a command is granted on a file: by Read if by_read, by Write if by_write, by ReadWrite, or always.
+pub fn decide(x: u16, session: Session, by_read: bool, by_write: bool, always: bool) -> Access
+    ensures { λ r. ⌜ r ≡ accessOf x session «by_read» «by_write» always ⌝ }
+{
+    let sealed = is_sealed(x, by_read, by_write);
+    if sealed {
+        return Access::Never;
+    }
+    let granted = is_granted(x, session, by_read, by_write);
+    if always | granted {
+        return Access::Granted;
+    }
+    Access::NotGranted
+}
+
+impl Session {
+    fn key(self) -> u8
+        ensures { λ r. ⌜ r ≡ keyOf self ⌝ }
+    {
+        match self {
+            Session::Nobody => 16,
+            Session::Key(k) => k,
+        }
+    }
+
+    fn opens(self, nibble: u8) -> bool
+        ensures { λ r. ⌜ r ≡ opens self nibble ⌝ }
+    {
+        let key = self.key();
+        (nibble == 0xE) | (nibble == key)
+    }
+
+    // Whether there is no session, or one with a key 0 to 4.
+    pub fn is_sound(self) -> bool
+        ensures { λ r. ⌜ r ≡ sessionSound self ⌝ }
+    {
+        match self {
+            Session::Nobody => true,
+            Session::Key(k) => k <= 4,
+        }
+    }
+}
+
+impl Access {
+    pub fn is_never(self) -> bool
+        ensures { λ r. ⌜ r ≡ isNever self ⌝ }
+    {
+        match self {
+            Access::Never => true,
+            Access::NotGranted => false,
+            Access::Granted => false,
+        }
+    }
+
+    pub fn is_not_granted(self) -> bool
+        ensures { λ r. ⌜ r ≡ isNotGranted self ⌝ }
+    {
+        match self {
+            Access::Never => false,
+            Access::NotGranted => true,
+            Access::Granted => false,
+        }
+    }
+}

@@ -1,0 +1,20 @@
+use Rattle.commands.specs.Table.{onFile}
+use borrow.Author.Needs.{needs}
+use Rattle.commands.proofs.columns.on_file.Statement.{statement}
+use Rattle.commands.proofs.columns.on_file.Tie as tie
+
+on-data-requires : tie.Need-on-data-requires
+on-data-requires c κs = search needs
+
+on-value-requires : tie.Need-on-value-requires
+on-value-requires c κs = search needs
+
+on-log-requires : tie.Need-on-log-requires
+on-log-requires c κs = search needs
+
+returns : tie.Need-returns
+unfolding onFile
+returns c = cc
+
+pub on-file-spec : {M : Type 1} → statement M
+on-file-spec = tie.close (tie.spec on-data-requires on-value-requires on-log-requires returns)

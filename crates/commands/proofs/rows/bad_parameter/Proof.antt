@@ -1,0 +1,20 @@
+use Rattle.commands.specs.Rows.{parameterCases}
+use borrow.Author.Needs.{needs}
+use Rattle.commands.proofs.rows.bad_parameter.Statement.{statement}
+use Rattle.commands.proofs.rows.bad_parameter.Tie as tie
+
+le4-at-requires : tie.Need-le4-at-requires
+le4-at-requires c κs = search needs
+
+le3-at-requires : tie.Need-le3-at-requires
+le3-at-requires c κs = search needs
+
+byte-at-requires : tie.Need-byte-at-requires
+byte-at-requires c κs = search needs
+
+returns : tie.Need-returns
+unfolding parameterCases
+returns c = cc
+
+pub bad-parameter-spec : {M : Type 1} → statement M
+bad-parameter-spec = tie.close (tie.spec le4-at-requires le3-at-requires byte-at-requires returns)

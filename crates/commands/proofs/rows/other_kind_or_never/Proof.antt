@@ -1,0 +1,21 @@
+use Rattle.commands.specs.Rows.{otherKindOrNever}
+use borrow.Author.Needs.{needs}
+use Rattle.commands.proofs.rows.other_kind_or_never.Statement.{statement}
+use Rattle.commands.proofs.rows.other_kind_or_never.Tie as tie
+
+on-file-requires : tie.Need-on-file-requires
+on-file-requires c κs = search needs
+
+suits-file-requires : tie.Need-suits-file-requires
+suits-file-requires c κs = search needs
+
+is-never-requires : tie.Need-is-never-requires
+is-never-requires c κs = search needs
+
+returns : tie.Need-returns
+unfolding otherKindOrNever
+returns c = cc
+
+pub other-kind-or-never-spec : {M : Type 1} → statement M
+other-kind-or-never-spec =
+    tie.close (tie.spec on-file-requires suits-file-requires is-never-requires returns)

@@ -1,0 +1,20 @@
+use Rattle.commands.specs.Rows.{lengthCases}
+use borrow.Author.Needs.{needs}
+use Rattle.commands.proofs.rows.wrong_length.Statement.{statement}
+use Rattle.commands.proofs.rows.wrong_length.Tie as tie
+
+le3-at-requires : tie.Need-le3-at-requires
+le3-at-requires c κs = search needs
+
+cast-with-bytes : tie.Need-cast-with-bytes
+cast-with-bytes c = search needs
+
+add-with-bytes : tie.Need-add-with-bytes
+add-with-bytes c = search needs
+
+returns : tie.Need-returns
+unfolding lengthCases
+returns c = cc
+
+pub wrong-length-spec : {M : Type 1} → statement M
+wrong-length-spec = tie.close (tie.spec le3-at-requires cast-with-bytes add-with-bytes returns)

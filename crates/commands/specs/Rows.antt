@@ -1,0 +1,132 @@
+-- The thirteen reasons for refusal, in the paper's order.
+use Prim.Native.Nat.{ℕ, _+_}
+use mathlib.Core.Bool.{Bool, not, _&&_, _||_}
+use mathlib.Core.List.{List, [], _∷_}
+use lib.Dec.{ltb, leb, eqb}
+use lib.IntN.{pos, _+ℤ_, _-ℤ_}
+use lib.ListN.{length, drop}
+use Rattle.tables.specs.Choice.{pick, any}
+use Rattle.tables.specs.Reasons.{Reason, _when_, first}
+use Rattle.wire.specs.Bytes.{outsideOf}
+use Rattle.datafiles.specs.Files.{sizeOf}
+use Rattle.purse.specs.declared.Limits.{Limits}
+use Rattle.purse.specs.declared.Purse.{Purse}
+use Rattle.purse.specs.Purse.{within}
+use Rattle.logbook.specs.Journal.{entrySize}
+use Rattle.access.specs.declared.Access.{Access}
+use Rattle.access.specs.Rights.{isNever, isNotGranted}
+use Rattle.commands.specs.Table.{readData, writeData, getValue, credit, debit, limitedCredit, readRecords, writeRecord, clearRecordFile, commitTransaction, abortTransaction, onData, onFile, ends, isFile, suits}
+use Rattle.frames.specs.Frame.{insOf, dataOf, fileOf, offsetOf, lengthOf, amountOf, optionOf, wrongSize, wrongClass, wrongParameters, wrongFrame}
+use Rattle.commands.specs.State.{Core, accessTo, logPending}
+
+-- ---- places 5 to 13: the INS i with the data field d
+
+-- INS not in the command table
+unfoldable pub unknownCommand : ℕ → Bool
+unknownCommand i = not (onFile i || ends i)
+
+-- data field of the wrong length; a write's length field is the number of bytes sent
+unfoldable pub lengthCases : ℕ → List ℕ → List Bool
+lengthCases i d =
+    (eqb i readData && not (eqb (length d) 7))
+    ∷ (eqb i writeData && not (eqb (length d) (lengthOf d + 7)))
+    ∷ (eqb i getValue && not (eqb (length d) 1))
+    ∷ (eqb i credit && not (eqb (length d) 5))
+    ∷ (eqb i debit && not (eqb (length d) 5))
+    ∷ (eqb i limitedCredit && not (eqb (length d) 5))
+    ∷ (eqb i readRecords && not (eqb (length d) 7))
+    ∷ (eqb i writeRecord && not (eqb (length d) (lengthOf d + 7)))
+    ∷ (eqb i clearRecordFile && not (eqb (length d) 1))
+    ∷ (eqb i commitTransaction && ltb 1 (length d))
+    ∷ (eqb i abortTransaction && ltb 0 (length d))
+    ∷ []
+
+abbrev pub wrongLength : ℕ → List ℕ → Bool
+wrongLength i d = any (lengthCases i d)
+
+-- file number not in the file table
+unfoldable pub unknownFile : ℕ → ℕ → Bool
+unknownFile i n = onFile i && not (isFile n)
+
+-- file of another kind; or every condition that could grant the command is Fh
+unfoldable pub otherKindOrNever : ℕ → ℕ → Access → Bool
+otherKindOrNever i n a = onFile i && (not (suits i n) || isNever a)
+
+-- no granting condition is free or equals the session key
+unfoldable pub notGranted : ℕ → Access → Bool
+notGranted i a = onFile i && isNotGranted a
+
+-- LimitedCredit while off; WriteRecord while a clear is pending
+unfoldable pub switchedOff : ℕ → Bool → Bool → Bool
+switchedOff i limited clears = (eqb i limitedCredit && not limited) || (eqb i writeRecord && clears)
+
+-- negative amount; write of length 0; commit option not 00h
+unfoldable pub parameterCases : ℕ → List ℕ → List Bool
+parameterCases i d =
+    ((eqb i credit || eqb i debit || eqb i limitedCredit) && leb 0x80000000 (amountOf d))
+    ∷ ((eqb i writeData || eqb i writeRecord) && eqb (lengthOf d) 0)
+    ∷ (eqb i commitTransaction && not (eqb (optionOf d) 0))
+    ∷ []
+
+abbrev pub badParameter : ℕ → List ℕ → Bool
+badParameter i d = any (parameterCases i d)
+
+-- a command with an offset and a length
+unfoldable pub ranged : ℕ → Bool
+ranged i = onData i || eqb i readRecords || eqb i writeRecord
+
+-- and the room that they are held to: the file's bytes, the log's entries, a new entry's bytes
+unfoldable pub roomOf : ℕ → ℕ → ℕ → ℕ
+roomOf i n entries = pick (eqb i readRecords) entries (pick (eqb i writeRecord) entrySize (sizeOf n))
+
+-- the new pending value outside the limits; more than what is left of the allowance
+unfoldable pub amountCases : Limits → Purse → ℕ → ℕ → List Bool
+amountCases l p i a =
+    (eqb i credit && not (within l (p .pending +ℤ pos a)))
+    ∷ (eqb i debit && not (within l (p .pending -ℤ pos a)))
+    ∷ (eqb i limitedCredit && (not (within l (p .pending +ℤ pos a)) || ltb (p .left) a))
+    ∷ []
+
+abbrev pub outsideAmount : Limits → Purse → ℕ → ℕ → Bool
+outsideAmount l p i a = any (amountCases l p i a)
+
+-- outside a file, the log, a limit or the allowance
+unfoldable pub outside : Limits → Purse → ℕ → ℕ → List ℕ → Bool
+outside l p entries i d =
+    pick (ranged i) (outsideOf (roomOf i (fileOf d) entries) (offsetOf d) (lengthOf d)) (outsideAmount l p i (amountOf d))
+
+-- commit or abort with nothing pending
+unfoldable pub nothingPending : ℕ → Bool → Bool → Bool
+nothingPending i value log = ends i && not (value || log)
+
+-- ---- the table
+
+-- places 1 to 13: the frame f, with the INS i and the data field d
+unfoldable pub rowsOf : Core → List ℕ → ℕ → List ℕ → List Reason
+rowsOf c f i d =
+    (0x6700 when wrongSize f)
+    ∷ (0x6E00 when wrongClass f)
+    ∷ (0x6A86 when wrongParameters f)
+    ∷ (0x6700 when wrongFrame f)
+    ∷ (0x911C when unknownCommand i)
+    ∷ (0x917E when wrongLength i d)
+    ∷ (0x91F0 when unknownFile i (fileOf d))
+    ∷ (0x919D when otherKindOrNever i (fileOf d) (accessTo (c .settings) (c .session) i (fileOf d)))
+    ∷ (0x91AE when notGranted i (accessTo (c .settings) (c .session) i (fileOf d)))
+    ∷ (0x919D when switchedOff i (c .settings .limited) (c .journal .clears))
+    ∷ (0x919E when badParameter i d)
+    ∷ (0x91BE when outside (c .settings .limits) (c .purse) (length (c .journal .entries)) i d)
+    ∷ (0x910C when nothingPending i (c .purse .moved) (logPending (c .journal)))
+    ∷ []
+
+-- the status of an accepted command
+abbrev pub ok : ℕ
+ok = 0x9100
+
+-- the first reason that applies names the status
+unfoldable pub statusOf : Core → List ℕ → ℕ
+statusOf c f = first (rowsOf c f (insOf f) (dataOf f)) ok
+
+-- the same from place 5 on
+unfoldable pub commandStatus : Core → ℕ → List ℕ → ℕ
+commandStatus c i d = first (drop 4 (rowsOf c [] i d)) ok

@@ -1,0 +1,84 @@
+-- The command table and the file table.
+use Prim.Native.Nat.{ℕ}
+use mathlib.Core.Bool.{Bool, _&&_, _||_}
+use lib.Dec.{eqb}
+use Rattle.datafiles.specs.Files.{data00, data04, data1F}
+
+-- ---- INS
+
+abbrev pub readData : ℕ
+readData = 0xAD
+
+abbrev pub writeData : ℕ
+writeData = 0x8D
+
+abbrev pub getValue : ℕ
+getValue = 0x6C
+
+abbrev pub credit : ℕ
+credit = 0x0C
+
+abbrev pub debit : ℕ
+debit = 0xDC
+
+abbrev pub limitedCredit : ℕ
+limitedCredit = 0x1C
+
+abbrev pub readRecords : ℕ
+readRecords = 0xAB
+
+abbrev pub writeRecord : ℕ
+writeRecord = 0x8B
+
+abbrev pub clearRecordFile : ℕ
+clearRecordFile = 0xEB
+
+abbrev pub commitTransaction : ℕ
+commitTransaction = 0xC7
+
+abbrev pub abortTransaction : ℕ
+abortTransaction = 0xA7
+
+-- ---- on which kind of file a command acts
+
+abbrev pub onData : ℕ → Bool
+onData i = eqb i readData || eqb i writeData
+
+abbrev pub onValue : ℕ → Bool
+onValue i = eqb i getValue || eqb i credit || eqb i debit || eqb i limitedCredit
+
+abbrev pub onLog : ℕ → Bool
+onLog i = eqb i readRecords || eqb i writeRecord || eqb i clearRecordFile
+
+unfoldable pub onFile : ℕ → Bool
+onFile i = onData i || onValue i || onLog i
+
+-- commit and abort, which name no file
+abbrev pub ends : ℕ → Bool
+ends i = eqb i commitTransaction || eqb i abortTransaction
+
+-- ---- granted by: R, W as listed; RW grants every command on a file
+
+abbrev pub byRead : ℕ → Bool
+byRead i = eqb i readData || eqb i getValue || eqb i debit || eqb i readRecords
+
+abbrev pub byWrite : ℕ → Bool
+byWrite i = eqb i writeData || eqb i getValue || eqb i debit || eqb i limitedCredit || eqb i writeRecord
+
+-- ---- the file table
+
+abbrev pub value03 : ℕ
+value03 = 0x03
+
+abbrev pub log01 : ℕ
+log01 = 0x01
+
+abbrev pub isData : ℕ → Bool
+isData n = eqb n data00 || eqb n data04 || eqb n data1F
+
+unfoldable pub isFile : ℕ → Bool
+isFile n = isData n || eqb n value03 || eqb n log01
+
+-- file n is of the kind on which the command acts
+unfoldable pub suits : ℕ → ℕ → Bool
+suits i n = (onData i && isData n) || (onValue i && eqb n value03) || (onLog i && eqb n log01)

@@ -1,0 +1,129 @@
+// Places 5 to 13 of the order of checks: a test each, of an INS with its data field d.
+use super::columns;
+use super::table;
+use access::Access;
+use datafiles::Files;
+use logbook::Log;
+use purse::Limits;
+use purse::Purse;
+ghost use mathlib.Core.Path.{_≡_};
+ghost use Rattle.commands.specs.Rows.{unknownCommand, wrongLength, unknownFile, otherKindOrNever, notGranted, switchedOff, badParameter, ranged, roomOf, outsideAmount, outside, nothingPending};
+
+pub fn unknown_command(ins: u8) -> bool
+    ensures { λ r. ⌜ r ≡ unknownCommand ins ⌝ }
+{
+    let file = columns::on_file(ins);
+    let end = columns::ends_all(ins);
+    !(file | end)
+}
+
+pub fn wrong_length(ins: u8, d: &[u8]) -> bool
+    ensures { λ r. ⌜ r ≡ wrongLength ins (now (d .entry)) ⌝ }
+{
+    let n = d.len();
+    let len = wire::le3_at(d, 4);
+    let with_bytes = len as usize + 7;
+    ((ins == table::READ_DATA) & (n != 7))
+        | ((ins == table::WRITE_DATA) & (n != with_bytes))
+        | ((ins == table::GET_VALUE) & (n != 1))
+        | ((ins == table::CREDIT) & (n != 5))
+        | ((ins == table::DEBIT) & (n != 5))
+        | ((ins == table::LIMITED_CREDIT) & (n != 5))
+        | ((ins == table::READ_RECORDS) & (n != 7))
+        | ((ins == table::WRITE_RECORD) & (n != with_bytes))
+        | ((ins == table::CLEAR_RECORD_FILE) & (n != 1))
+        | ((ins == table::COMMIT_TRANSACTION) & (1 < n))
+        | ((ins == table::ABORT_TRANSACTION) & (0 < n))
+}
+
+pub fn unknown_file(ins: u8, n: u8) -> bool
+    ensures { λ r. ⌜ r ≡ unknownFile ins n ⌝ }
+{
+    let file = columns::on_file(ins);
+    let known = columns::is_file(n);
+    file & !known
+}
+
+pub fn other_kind_or_never(ins: u8, n: u8, access: Access) -> bool
+    ensures { λ r. ⌜ r ≡ otherKindOrNever ins n access ⌝ }
+{
+    let file = columns::on_file(ins);
+    let suited = columns::suits_file(ins, n);
+    let never = access.is_never();
+    file & (!suited | never)
+}
+
+pub fn not_granted(ins: u8, access: Access) -> bool
+    ensures { λ r. ⌜ r ≡ notGranted ins access ⌝ }
+{
+    let file = columns::on_file(ins);
+    let refused = access.is_not_granted();
+    file & refused
+}
+
+pub fn switched_off(ins: u8, limited: bool, clears: bool) -> bool
+    ensures { λ r. ⌜ r ≡ switchedOff ins limited clears ⌝ }
+{
+    ((ins == table::LIMITED_CREDIT) & !limited) | ((ins == table::WRITE_RECORD) & clears)
+}
+
+pub fn bad_parameter(ins: u8, d: &[u8]) -> bool
+    ensures { λ r. ⌜ r ≡ badParameter ins (now (d .entry)) ⌝ }
+{
+    let amount = wire::le4_at(d, 1);
+    let len = wire::le3_at(d, 4);
+    let option = wire::byte_at(d, 0);
+    (((ins == table::CREDIT) | (ins == table::DEBIT) | (ins == table::LIMITED_CREDIT))
+        & (0x80000000 <= amount))
+        | (((ins == table::WRITE_DATA) | (ins == table::WRITE_RECORD)) & (len == 0))
+        | ((ins == table::COMMIT_TRANSACTION) & (option != 0))
+}
+
+// Whether the command has an offset and a length.
+fn has_range(ins: u8) -> bool
+    ensures { λ r. ⌜ r ≡ ranged ins ⌝ }
+{
+    let data = columns::on_data(ins);
+    data | (ins == table::READ_RECORDS) | (ins == table::WRITE_RECORD)
+}
+
+// The room that they are held to.
+fn room_of(ins: u8, n: u8, entries: u8) -> usize
+    ensures { λ r. ⌜ r ≡ roomOf ins n entries ⌝ }
+{
+    if ins == table::READ_RECORDS {
+        return entries as usize;
+    }
+    if ins == table::WRITE_RECORD {
+        return Log::ENTRY;
+    }
+    Files::size(n)
+}
+
+// Whether an amount passes a limit or the allowance.
+fn amount_is_outside(limits: Limits, purse: Purse, ins: u8, amount: u32) -> bool
+    ensures { λ r. ⌜ r ≡ outsideAmount limits purse ins amount ⌝ }
+{
+    let rises = limits.hold_rise(purse.pending, amount);
+    let falls = limits.hold_fall(purse.pending, amount);
+    ((ins == table::CREDIT) & !rises)
+        | ((ins == table::DEBIT) & !falls)
+        | ((ins == table::LIMITED_CREDIT) & (!rises | (purse.left < amount)))
+}
+
+pub fn is_outside(limits: Limits, purse: Purse, entries: u8, ins: u8, d: &[u8]) -> bool
+    ensures { λ r. ⌜ r ≡ outside limits purse entries ins (now (d .entry)) ⌝ }
+{
+    if has_range(ins) {
+        let room = room_of(ins, wire::byte_at(d, 0), entries);
+        return wire::is_outside(room, wire::le3_at(d, 1), wire::le3_at(d, 4));
+    }
+    amount_is_outside(limits, purse, ins, wire::le4_at(d, 1))
+}
+
+pub fn nothing_pending(ins: u8, value: bool, log: bool) -> bool
+    ensures { λ r. ⌜ r ≡ nothingPending ins value log ⌝ }
+{
+    let end = columns::ends_all(ins);
+    end & !(value | log)
+}

@@ -1,0 +1,26 @@
+// The command table and the file table by number.
+pub const READ_DATA: u8 = 0xAD;
+
+pub const WRITE_DATA: u8 = 0x8D;
+
+pub const GET_VALUE: u8 = 0x6C;
+
+pub const CREDIT: u8 = 0x0C;
+
+pub const DEBIT: u8 = 0xDC;
+
+pub const LIMITED_CREDIT: u8 = 0x1C;
+
+pub const READ_RECORDS: u8 = 0xAB;
+
+pub const WRITE_RECORD: u8 = 0x8B;
+
+pub const CLEAR_RECORD_FILE: u8 = 0xEB;
+
+pub const COMMIT_TRANSACTION: u8 = 0xC7;
+
+pub const ABORT_TRANSACTION: u8 = 0xA7;
+
+pub const VALUE_03: u8 = 0x03;
+
+pub const LOG_01: u8 = 0x01;

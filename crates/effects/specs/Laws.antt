@@ -1,0 +1,101 @@
+-- Where a command is accepted, what the functions answer is what the rules say.
+use Prim.Native.Nat.{ℕ, _≤_}
+use mathlib.Core.Bool.{Bool, true, false, not, _||_}
+use mathlib.Core.List.{List, [], _∷_}
+use mathlib.Core.Path.{_≡_, refl, sym, subst}
+use borrow.Author.Tests.{eqb-true, not-false, ltb-false, le-leb, le-ltb}
+use lib.Dec.{eqb, ltb}
+use lib.IntN.{ℤ, pos, _+ℤ_, _-ℤ_}
+use lib.ListN.{length}
+use mir.Syntax.{w32}
+use mir.Val.{ofZ}
+use native.Mathlib.Omega.{arith}
+use Rattle.tables.specs.Choice.{pick, any, picked, passed, pick-alike, and-both, or-none, or-no}
+use Rattle.wire.specs.Bytes.{four, outsideOf}
+use Rattle.datafiles.specs.declared.Files.{Files}
+use Rattle.datafiles.specs.Files as files
+use Rattle.purse.specs.declared.Limits.{Limits}
+use Rattle.purse.specs.declared.Purse.{Purse}
+use Rattle.purse.specs.Guarded.{creditIn, debitIn, rebookIn}
+use Rattle.purse.specs.Purse.{within, credited, debited, rebooked}
+use Rattle.logbook.specs.declared.Log.{Log}
+use Rattle.logbook.specs.Journal.{Journal}
+use Rattle.logbook.specs.Journal as journal
+use Rattle.logbook.specs.View as log
+use Rattle.logbook.specs.Entries.{length-cut}
+use Rattle.frames.specs.Frame.{fileOf, offsetOf, lengthOf, amountOf}
+use Rattle.commands.specs.Table.{readData, getValue, credit, debit, limitedCredit, readRecords, commitTransaction, abortTransaction}
+use Rattle.commands.specs.State.{Core, State}
+use Rattle.commands.specs.Rows.{outside, ok, commandStatus}
+use Rattle.commands.specs.Laws.{inside, read-inside, entries-inside, credit-inside, debit-inside, rebook-inside}
+use Rattle.effects.specs.Effects.{purseAfter, shown}
+use Rattle.effects.specs.Guarded.{purseIn, valueIn, shownIn}
+
+-- ---- the value file
+
+module _ (l : Limits) (p : Purse) (n : ℕ) (d : List ℕ) where
+  credits : outside l p n credit d ≡ false → creditIn l p (amountOf d) ≡ credited p (amountOf d)
+  unfolding creditIn
+  credits e = picked _ _ (credit-inside l p n d e)
+
+  debits : outside l p n debit d ≡ false → debitIn l p (amountOf d) ≡ debited p (amountOf d)
+  unfolding debitIn
+  debits e = picked _ _ (debit-inside l p n d e)
+
+  rebooks : outside l p n limitedCredit d ≡ false → rebookIn l p (amountOf d) ≡ rebooked p (amountOf d)
+  unfolding rebookIn pick
+  rebooks e =
+      let h = rebook-inside l p n d e in
+      let w = not-false (within l (p .pending +ℤ pos (amountOf d))) (h .0) in
+      let r = le-leb (amountOf d) (p .left) (ltb-false (p .left) (amountOf d) (h .1)) in
+      rw (w, r)
+
+  -- a fact of the row at the command i, where i is k
+  at : (i k : ℕ) → outside l p n i d ≡ false → eqb i k ≡ true → outside l p n k d ≡ false
+  at i k e t = subst (λ (j : ℕ). outside l p n j d ≡ false) (eqb-true i k t) e
+
+  purse-inside : (i : ℕ) → outside l p n i d ≡ false → purseIn l i d p ≡ purseAfter i d p
+  unfolding purseIn purseAfter
+  purse-inside i e =
+      pick-alike _ (λ t. credits (at i credit e t))
+      (λ _. pick-alike _ (λ t. debits (at i debit e t))
+      (λ _. pick-alike _ (λ t. rebooks (at i limitedCredit e t))
+      (λ _. refl)))
+
+pub purse-accepted : (c : Core) (i : ℕ) (d : List ℕ) → commandStatus c i d ≡ ok → purseIn (c .settings .limits) i d (c .purse) ≡ purseAfter i d (c .purse)
+purse-accepted c i d e = purse-inside (c .settings .limits) (c .purse) (length (c .journal .entries)) d i (inside c i d e)
+
+-- ---- what is shown
+
+entries-view : (l : Log) → length (log.view l .entries) ≡ l .count
+unfolding log.view
+entries-view l = length-cut (l .count) (l .slots)
+
+module _ (room : ℕ) (s : State) (l : Log) (d : List ℕ) (j : s .core .journal ≡ log.view l) (k : 258 ≤ room) (b : log.broken l ≡ false) where
+  data-shown : outsideOf (files.sizeOf (fileOf d)) (offsetOf d) (lengthOf d) ≡ false
+      → files.shownIn room (s .files) (fileOf d) (offsetOf d) (lengthOf d) ≡ files.shown (s .files) (fileOf d) (offsetOf d) (lengthOf d)
+  unfolding files.shownIn
+  data-shown e = passed _ _ (or-none _ _ (le-ltb room 256 (omega arith)) e)
+
+  value-shown : (v : ℤ) → valueIn room v ≡ four (ofZ w32 v)
+  unfolding valueIn
+  value-shown v = passed _ _ (le-ltb room 4 (omega arith))
+
+  entries-shown : outsideOf (length (s .core .journal .entries)) (offsetOf d) (lengthOf d) ≡ false
+      → log.shownIn room l (offsetOf d) (lengthOf d) ≡ journal.shown (s .core .journal) (offsetOf d) (lengthOf d)
+  unfolding log.shownIn log.broken
+  entries-shown e =
+      let o : outsideOf (l .count) (offsetOf d) (lengthOf d) ≡ false = rw (j, entries-view l) at e in
+      let r = le-ltb room 64 (omega arith) in
+      let f = or-no (ltb 4 (l .count)) _ b .0 in
+      rw j (passed _ _ (rw (r, f, o)))
+
+  pub shown-accepted : (i : ℕ) → commandStatus (s .core) i d ≡ ok → shownIn room (s .files) (s .core .purse .value) l i d ≡ shown s i d
+  unfolding shownIn shown
+  shown-accepted i e =
+      let c = s .core in
+      let o = inside c i d e in
+      pick-alike _ (λ t. data-shown (read-inside (c .settings .limits) (c .purse) _ d (at (c .settings .limits) (c .purse) _ d i readData o t)))
+      (λ _. pick-alike _ (λ t. value-shown (c .purse .value))
+      (λ _. pick-alike _ (λ t. entries-shown (entries-inside (c .settings .limits) (c .purse) _ d (at (c .settings .limits) (c .purse) _ d i readRecords o t)))
+      (λ _. refl)))

@@ -1,0 +1,15 @@
+use Rattle.logbook.specs.Journal.{dropped, resting}
+use Rattle.logbook.specs.View.{cut, view, put}
+use borrow.Author.Needs.{needs}
+use Rattle.logbook.proofs.Log.emptied.Statement.{statement}
+use Rattle.logbook.proofs.Log.emptied.Tie as tie
+
+drop-pending-requires : tie.Need-drop-pending-requires
+drop-pending-requires c κs = search needs
+
+returns : tie.Need-returns
+unfolding put view cut dropped resting
+returns c = c .drop-pending .ensures
+
+pub emptied-spec : {M : Type 1} → statement M
+emptied-spec = tie.close (tie.spec drop-pending-requires returns)

@@ -1,0 +1,98 @@
+use mathlib.Core.Path.{_≡_, refl, _∙_}
+use Prim.Native.Nat.{_≤_, _-_, _+_}
+use native.Mathlib.Omega.{arith}
+use borrow.Author.Needs.{needs}
+use lib.ListN.{length}
+use Rattle.wire.specs.Bytes.{laid}
+use Rattle.logbook.specs.Range.{oldestFirst}
+use Rattle.logbook.proofs.Reading.{oldest-none, oldest-step, oldest-all}
+use Rattle.logbook.proofs.lay_entries.Statement.{statement}
+use Rattle.logbook.proofs.lay_entries.Tie as tie
+
+abbrev Inv-loop : tie.InvT-loop
+Inv-loop slots first number reply₀ end k₀ reply k = (k ≤ number) × (length reply ≡ length reply₀) × (reply ≡ laid reply₀ 0 (oldestFirst slots (end - k) k))
+
+abbrev μ-loop : tie.MeasureT-loop
+μ-loop slots first number reply₀ end k₀ reply k = number - k
+
+add-end : tie.Need-add-end Inv-loop μ-loop
+add-end c = search needs
+
+loop-holds : tie.Need-loop-holds Inv-loop μ-loop
+loop-holds c = (omega arith, refl, oldest-none (c .before .before .args .reply .now) _ _)
+
+add-i : tie.Need-add-i Inv-loop μ-loop
+add-i c = search needs
+
+sub-i : tie.Need-sub-i Inv-loop μ-loop
+sub-i c = search needs
+
+mul-i : tie.Need-mul-i Inv-loop μ-loop
+mul-i c = search needs
+
+mul-lay : tie.Need-mul-lay Inv-loop μ-loop
+mul-lay c = search needs
+
+add-lay : tie.Need-add-lay Inv-loop μ-loop
+add-lay c = search needs
+
+sub-lay : tie.Need-sub-lay Inv-loop μ-loop
+sub-lay c = search needs
+
+part-lay-start : tie.Need-part-lay-start Inv-loop μ-loop
+part-lay-start c = search needs
+
+part-lay-end : tie.Need-part-lay-end Inv-loop μ-loop
+part-lay-end c = search needs
+
+lay-requires : tie.Need-lay-requires Inv-loop μ-loop
+lay-requires c κs = search needs
+
+add-k : tie.Need-add-k Inv-loop μ-loop
+add-k c = search needs
+
+loop-less : tie.Need-loop-less Inv-loop μ-loop
+loop-less c = search needs
+
+loop-again : tie.Need-loop-again Inv-loop μ-loop
+loop-again c =
+    let a = c .before .before .before .before .before .before .before .before .before .args in
+    let l = c .before .before .before .before .before .before .loop in
+    (search needs, search needs, c .before .before .lay .ensures ∙ oldest-step (a .reply .now) (a .slots .now) (l .reply) (a .first + a .number) (l .k) (omega arith) (omega arith) (omega arith) (l .inv .2))
+
+mul-result : tie.Need-mul-result Inv-loop μ-loop
+mul-result c = search needs
+
+same-length : tie.Need-same-length Inv-loop μ-loop
+same-length c = search needs
+
+returns : tie.Need-returns Inv-loop μ-loop
+returns c =
+    let a = c .before .before .before .before .args in
+    let k : c .before .loop .k ≡ a .number = omega arith in
+    let s = oldest-all (a .slots .now) (a .first) (a .number) (omega arith) in
+    (cc, cc)
+
+pub lay-entries-spec : {M : Type 1} → statement M
+lay-entries-spec =
+    tie.close
+    (tie.spec
+    Inv-loop
+    μ-loop
+    add-end
+    loop-holds
+    add-i
+    sub-i
+    mul-i
+    mul-lay
+    add-lay
+    sub-lay
+    part-lay-start
+    part-lay-end
+    lay-requires
+    add-k
+    loop-less
+    loop-again
+    mul-result
+    same-length
+    returns)

@@ -1,0 +1,86 @@
+-- What fits: a log's journal, what each step makes of one that fits, and its lengths.
+use Prim.Native.Nat.{ℕ, _+_, _-_, _≤_}
+use mathlib.Core.Bool.{false, _&&_}
+use mathlib.Core.List.{List, [], _∷_, reverse}
+use mathlib.Core.Path.{_≡_, refl, _∙_}
+use borrow.Author.Tests.{ltb-false, leb-true}
+use lib.Dec.{eqb, ltb, leb}
+use lib.ListN.{length, take, drop, length-take, length-drop, length-reverse}
+use native.Mathlib.Omega.{arith}
+use Rattle.tables.specs.Choice.{pick, pick-both, pick-cases, or-no}
+use Rattle.wire.specs.Bytes.{laid, laidIn}
+use Rattle.wire.specs.Laws.{length-laid}
+use Rattle.logbook.specs.declared.Log.{Log}
+use Rattle.logbook.specs.Journal.{Journal, blank, joined, shown, freshOr, written, cleared, pushed, resting, settled, dropped}
+use Rattle.logbook.specs.View.{view, broken}
+use Rattle.logbook.specs.Fit.{Sixteens, Fit}
+use Rattle.logbook.specs.Entries.{length-cut, length-joined, sixteens-cut, sixteens-take, sixteens-drop, sixteens-reverse}
+
+pub fit-view : (l : Log) → broken l ≡ false → length (l .slots) ≡ 64 → length (l .entry) ≡ 16 → Fit (view l)
+unfolding view broken
+fit-view l b s e =
+    let few = ltb-false 4 (l .count) (or-no (ltb 4 (l .count)) (l .adds && l .clears) b .0) in
+    let n = length-cut (l .count) (l .slots) in
+    record {
+      sized = sixteens-cut (l .count) (l .slots) (omega arith);
+      few = omega arith;
+      fresh-sized = pick-both (λ (fs : List (List ℕ)). Sixteens fs) (l .adds) (l .entry ∷ []) [] (e, tt) tt;
+      fresh-one = pick-both (λ (fs : List (List ℕ)). length fs ≤ 1) (l .adds) (l .entry ∷ []) [] (omega arith) (omega arith);
+    }
+
+length-laidIn : (b : List ℕ) (at : ℕ) (x : List ℕ) → length (laidIn b at x) ≡ length b
+unfolding laidIn
+length-laidIn b at x = pick-cases (λ (y : List ℕ). length y ≡ length b) (leb (at + length x) (length b)) (laid b at x) b (λ t. length-laid b at x (leb-true (at + length x) (length b) t)) (λ t. refl)
+
+length-fresh : (fs : List (List ℕ)) → Sixteens fs → length (freshOr blank fs) ≡ 16
+unfolding freshOr blank
+length-fresh [] h = refl
+length-fresh (f ∷ fs) (h, hs) = h
+
+pub fit-written : (j : Journal) (off : ℕ) (bytes : List ℕ) → Fit j → Fit (written j off bytes)
+unfolding written
+fit-written j off bytes f =
+    record {
+      sized = f .sized;
+      few = f .few;
+      fresh-sized = (length-laidIn (freshOr blank (j .fresh)) off bytes ∙ length-fresh (j .fresh) (f .fresh-sized), tt);
+      fresh-one = omega arith;
+    }
+
+pub fit-cleared : (j : Journal) → Fit j → Fit (cleared j)
+unfolding cleared
+fit-cleared j f = record { sized = f .sized; few = f .few; fresh-sized = tt; fresh-one = omega arith }
+
+fit-resting : (es : List (List ℕ)) → Sixteens es → length es ≤ 4 → Fit (resting es)
+unfolding resting
+fit-resting es s n = record { sized = s; few = n; fresh-sized = tt; fresh-one = omega arith }
+
+fit-pushed : (fs es : List (List ℕ)) → Sixteens fs → Sixteens es → length es ≤ 4 → Fit (resting (pushed fs es))
+unfolding pushed
+fit-pushed [] es h s n = fit-resting es s n
+fit-pushed (f ∷ fs) es h s n = fit-resting (take 4 (f ∷ es)) (h .0, sixteens-take 3 es s) (simp length-take (omega arith))
+
+pub fit-settled : (j : Journal) → Fit j → Fit (settled j)
+unfolding settled
+fit-settled j f = pick-both (λ (es : List (List ℕ)). Fit (resting es)) (j .clears) [] (pushed (j .fresh) (j .entries)) (fit-resting [] tt (omega arith)) (fit-pushed (j .fresh) (j .entries) (f .fresh-sized) (f .sized) (f .few))
+
+pub fit-dropped : (j : Journal) → Fit j → Fit (dropped j)
+unfolding dropped
+fit-dropped j f = fit-resting (j .entries) (f .sized) (f .few)
+
+-- ---- lengths
+
+pub joined-room : (j : Journal) → Fit j → length (joined (j .entries)) ≤ 64
+joined-room j f = let l = length-joined (j .entries) (f .sized) in let n = f .few in omega arith
+
+pub shown-room : (j : Journal) (r c : ℕ) → Fit j → length (shown j r c) ≤ 64
+unfolding shown
+shown-room j r c f = within (pick (eqb c 0) (length (j .entries) - r) c)
+  where
+    within : (k : ℕ) → length (joined (reverse (take k (drop r (j .entries))))) ≤ 64
+    within k =
+        let es : List (List ℕ) = take k (drop r (j .entries)) in
+        let s = sixteens-reverse es (sixteens-take k (drop r (j .entries)) (sixteens-drop r (j .entries) (f .sized))) in
+        let l = length-joined (reverse es) s in
+        let n = f .few in
+        omega (arith, length-reverse es, length-take k (drop r (j .entries)), length-drop r (j .entries))

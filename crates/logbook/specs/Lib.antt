@@ -1,0 +1,7 @@
+pub mod Journal
+pub mod View
+pub mod Range
+pub mod Fit
+pub mod Entries
+pub mod Laws
+pub mod FitLaws

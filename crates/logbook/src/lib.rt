@@ -1,0 +1,179 @@
+// The cyclic log: four slots of 16 bytes, the newest entry in front, and what is pending on them.
+ghost use Prim.Native.Nat.{_+_, _-_, _<_, _≤_, min};
+ghost use mathlib.Core.List.{[], _∷_};
+ghost use mathlib.Core.Path.{_≡_};
+ghost use lib.Dec.{eqb};
+ghost use lib.ListN.{length};
+ghost use Rattle.tables.specs.Choice.{pick};
+ghost use Rattle.wire.specs.Bytes.{laid};
+ghost use Rattle.logbook.specs.Journal.{blank, freshOr, pushed, resting, written, cleared, settled, dropped};
+ghost use Rattle.logbook.specs.View.{view, put, empty, broken, shownIn};
+ghost use Rattle.logbook.specs.Range.{oldestFirst};
+
+pub struct Log {
+    // Committed entries: the first count slots.
+    pub slots: [u8; 64],
+    pub count: u8,
+    // The new entry, where one is pending; whether one is, and whether a clear is.
+    pub entry: [u8; 16],
+    pub adds: bool,
+    pub clears: bool,
+}
+
+// Lays number entries from entry first on over the front of reply, the oldest leading.
+fn lay_entries(slots: &[u8], first: usize, number: usize, reply: &mut [u8]) -> usize
+    requires { ⌜ (length (now slots) ≡ 64) × (first + number ≤ 4) × (64 ≤ length (now reply)) ⌝ }
+    ensures { λ r. ⌜ (now (reply .exit) ≡ laid (now (reply .entry)) 0 (oldestFirst (now (slots .entry)) first number)) × (r ≡ length (oldestFirst (now (slots .entry)) first number)) ⌝ }
+{
+    let end = first + number;
+    let mut k = 0;
+    while k < number {
+        let i = Log::ENTRY * (end - (k + 1));
+        wire::lay(reply, Log::ENTRY * k, &slots[i..i + Log::ENTRY]);
+        k += 1;
+    }
+    Log::ENTRY * number
+}
+
+impl Log {
+    // The bytes of an entry.
+    pub const ENTRY: usize = 16;
+
+    // The most entries.
+    pub const MOST: u8 = 4;
+
+    // An empty log of zero bytes.
+    pub fn empty() -> Log
+        ensures { λ r. ⌜ r ≡ empty ⌝ }
+    {
+        Log {
+            slots: [0; 64],
+            count: 0,
+            entry: [0; 16],
+            adds: false,
+            clears: false,
+        }
+    }
+
+    // The number of entries that a read of count from entry first on shows: all of them where count is 0.
+    fn span(self, first: u32, count: u32) -> usize
+        requires { ⌜ (first < self .count) × (first + count ≤ self .count) ⌝ }
+        ensures { λ r. ⌜ (r ≡ pick (eqb count 0) (self .count - first) count) × (first + r ≤ self .count) ⌝ }
+    {
+        if count == 0 {
+            return self.count as usize - first as usize;
+        }
+        count as usize
+    }
+
+    // Lays a read of count entries from entry first on over the front of reply, and answers its length.
+    pub fn show(self, first: u32, count: u32, reply: &mut [u8]) -> usize
+        ensures { λ r. ⌜ (now (reply .exit) ≡ laid (now (reply .entry)) 0 (shownIn (length (now (reply .entry))) self first count)) × (r ≡ length (shownIn (length (now (reply .entry))) self first count)) ⌝ }
+    {
+        if reply.len() < 64 {
+            return 0;
+        }
+        if Self::MOST < self.count {
+            return 0;
+        }
+        if wire::is_outside(self.count as usize, first, count) {
+            return 0;
+        }
+        let slots = self.slots;
+        let number = self.span(first, count);
+        lay_entries(&slots, first as usize, number, reply)
+    }
+
+    // The new entry as it stands: one of zeros, where there is none yet.
+    fn fresh(self) -> [u8; 16]
+        ensures { λ r. ⌜ r ≡ freshOr blank (view self .fresh) ⌝ }
+    {
+        if !self.adds {
+            return [0; 16];
+        }
+        self.entry
+    }
+
+    // WriteRecord.
+    pub fn write(mut self, off: u32, bytes: &[u8]) -> Log
+        ensures { λ r. ⌜ r ≡ put self (written (view self) off (now (bytes .entry))) ⌝ }
+    {
+        let mut entry = self.fresh();
+        wire::lay(&mut entry, off as usize, bytes);
+        self.entry = entry;
+        self.adds = true;
+        self
+    }
+
+    // ClearRecordFile.
+    pub fn clear(self) -> Log
+        ensures { λ r. ⌜ r ≡ put self (cleared (view self)) ⌝ }
+    {
+        let mut next = self.drop_pending();
+        next.clears = true;
+        next
+    }
+
+    // The log with no entry and nothing pending.
+    fn emptied(mut self) -> Log
+        ensures { λ r. ⌜ r ≡ put self (resting []) ⌝ }
+    {
+        self.count = 0;
+        self.drop_pending()
+    }
+
+    // The number of entries that stay beside a new one.
+    fn kept(self) -> u8
+        ensures { λ r. ⌜ r ≡ min 3 (self .count) ⌝ }
+    {
+        if 3 < self.count {
+            return 3;
+        }
+        self.count
+    }
+
+    // The new entry goes in front; a fifth pushes the oldest out.
+    fn push(mut self) -> Log
+        ensures { λ r. ⌜ r ≡ put self (resting (pushed (self .entry ∷ []) (view self .entries))) ⌝ }
+    {
+        let kept = self.kept();
+        let end = Self::ENTRY * kept as usize;
+        let old = self.slots;
+        let entry = self.entry;
+        let mut slots = self.slots;
+        wire::lay(&mut slots, Self::ENTRY, &old[0..end]);
+        wire::lay(&mut slots, 0, &entry);
+        self.slots = slots;
+        self.count = kept + 1;
+        self.drop_pending()
+    }
+
+    // The transaction's end: a pending clear empties the log; else a new entry goes in front.
+    pub fn commit(self) -> Log
+        ensures { λ r. ⌜ r ≡ put self (settled (view self)) ⌝ }
+    {
+        if self.clears {
+            return self.emptied();
+        }
+        if self.adds {
+            return self.push();
+        }
+        self.drop_pending()
+    }
+
+    // What is pending goes; the entries stay.
+    pub fn drop_pending(mut self) -> Log
+        ensures { λ r. ⌜ r ≡ put self (dropped (view self)) ⌝ }
+    {
+        self.adds = false;
+        self.clears = false;
+        self
+    }
+
+    // Whether a standing rule of the log is broken.
+    pub fn breaks(self) -> bool
+        ensures { λ r. ⌜ r ≡ broken self ⌝ }
+    {
+        (Self::MOST < self.count) | (self.adds & self.clears)
+    }
+}

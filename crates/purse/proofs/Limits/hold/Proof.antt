@@ -1,0 +1,19 @@
+-- `purse::Limits::hold` meets its contract: the machine's tests are the definition's. Assumes nothing.
+use borrow.Author.Needs.{needs}
+use mir.Syntax.{w32}
+use mir.Val.{SFits}
+use mir.Facts.{toZ-ofZ}
+use Rattle.purse.specs.Purse.{within}
+use Rattle.purse.proofs.Limits.hold.Statement.{statement}
+use Rattle.purse.proofs.Limits.hold.Tie as tie
+
+returns : tie.Need-returns
+unfolding within
+returns c =
+    let s = c .before .before .before .before in
+    let fl : SFits w32 (s .args .self .lower) = search needs in
+    let fu : SFits w32 (s .args .self .upper) = search needs in
+    simp (toZ-ofZ, fl, fu, s .fits .v)
+
+pub hold-spec : {M : Type 1} → statement M
+hold-spec = tie.close (tie.spec returns)

@@ -1,0 +1,4 @@
+pub mod Purse
+pub mod Rules
+pub mod Guarded
+pub mod Laws

@@ -1,0 +1,173 @@
+// The value file: a signed value between two limits, what is pending on it, and the re-booking allowance.
+ghost use mathlib.Core.Path.{_≡_};
+ghost use lib.IntN.{pos, _+ℤ_, _-ℤ_};
+ghost use Rattle.purse.specs.Purse.{crossed, within, heldSum, resting, settled, dropped};
+ghost use Rattle.purse.specs.Rules.{unequal, broken};
+ghost use Rattle.purse.specs.Guarded.{raiseIn, creditIn, debitIn, rebookIn};
+
+pub struct Limits {
+    pub lower: i32,
+    pub upper: i32,
+}
+
+pub struct Purse {
+    // Committed figures.
+    pub value: i32,
+    pub allowance: u32,
+    // The open transaction's: the pending value, what is left of the allowance, the sum of its Debits and whether it has
+    // one, and whether the file is pending.
+    pub pending: i32,
+    pub left: u32,
+    pub debits: u32,
+    pub debited: bool,
+    pub moved: bool,
+}
+
+impl Limits {
+    // Whether the lower limit is above the upper.
+    pub fn are_crossed(self) -> bool
+        ensures { λ r. ⌜ r ≡ crossed self ⌝ }
+    {
+        self.upper < self.lower
+    }
+
+    // Whether the limits hold the value v.
+    pub fn hold(self, v: i32) -> bool
+        ensures { λ r. ⌜ r ≡ within self v ⌝ }
+    {
+        (self.lower <= v) & (v <= self.upper)
+    }
+
+    // The same of a figure of 64 bits.
+    fn hold_wide(self, v: i64) -> bool
+        ensures { λ r. ⌜ r ≡ within self v ⌝ }
+    {
+        (self.lower as i64 <= v) & (v <= self.upper as i64)
+    }
+
+    // The limit test of a rise, in 64 bits.
+    pub fn hold_rise(self, from: i32, amount: u32) -> bool
+        ensures { λ r. ⌜ r ≡ within self (from +ℤ pos amount) ⌝ }
+    {
+        self.hold_wide(from as i64 + amount as i64)
+    }
+
+    // The limit test of a fall, in 64 bits.
+    pub fn hold_fall(self, from: i32, amount: u32) -> bool
+        ensures { λ r. ⌜ r ≡ within self (from -ℤ pos amount) ⌝ }
+    {
+        self.hold_wide(from as i64 - amount as i64)
+    }
+}
+
+// The sum of Debits with one more, held at the largest figure.
+fn held_sum(sum: u32, amount: u32) -> u32
+    ensures { λ r. ⌜ r ≡ heldSum sum amount ⌝ }
+{
+    let total = sum as u64 + amount as u64;
+    if total <= Purse::LARGEST as u64 {
+        total as u32
+    } else {
+        Purse::LARGEST
+    }
+}
+
+impl Purse {
+    // The largest figure of the allowance and of a sum of Debits.
+    pub const LARGEST: u32 = 2147483647;
+
+    // A purse with nothing pending.
+    pub fn resting(value: i32, allowance: u32) -> Purse
+        ensures { λ r. ⌜ r ≡ resting value allowance ⌝ }
+    {
+        Purse {
+            value,
+            allowance,
+            pending: value,
+            left: allowance,
+            debits: 0,
+            debited: false,
+            moved: false,
+        }
+    }
+
+    // What Credit and LimitedCredit share: the pending value rises, with `left` left of the allowance.
+    fn raise(mut self, limits: Limits, amount: u32, left: u32) -> Purse
+        ensures { λ r. ⌜ r ≡ raiseIn limits self amount left ⌝ }
+    {
+        if !limits.hold_rise(self.pending, amount) {
+            return self;
+        }
+        self.pending = (self.pending as i64 + amount as i64) as i32;
+        self.left = left;
+        self.moved = true;
+        self
+    }
+
+    pub fn credit(self, limits: Limits, amount: u32) -> Purse
+        ensures { λ r. ⌜ r ≡ creditIn limits self amount ⌝ }
+    {
+        let left = self.left;
+        self.raise(limits, amount, left)
+    }
+
+    pub fn debit(mut self, limits: Limits, amount: u32) -> Purse
+        ensures { λ r. ⌜ r ≡ debitIn limits self amount ⌝ }
+    {
+        if !limits.hold_fall(self.pending, amount) {
+            return self;
+        }
+        self.pending = (self.pending as i64 - amount as i64) as i32;
+        self.debits = held_sum(self.debits, amount);
+        self.debited = true;
+        self.moved = true;
+        self
+    }
+
+    // LimitedCredit: it takes the amount from what is left of the allowance.
+    pub fn rebook(self, limits: Limits, amount: u32) -> Purse
+        ensures { λ r. ⌜ r ≡ rebookIn limits self amount ⌝ }
+    {
+        let left = self.left;
+        if left < amount {
+            return self;
+        }
+        self.raise(limits, amount, left - amount)
+    }
+
+    // The pending figures become the committed ones; after a Debit the allowance is the sum of Debits.
+    pub fn commit(self) -> Purse
+        ensures { λ r. ⌜ r ≡ settled self ⌝ }
+    {
+        if self.debited {
+            return Purse::resting(self.pending, self.debits);
+        }
+        Purse::resting(self.pending, self.left)
+    }
+
+    pub fn drop_pending(self) -> Purse
+        ensures { λ r. ⌜ r ≡ dropped self ⌝ }
+    {
+        Purse::resting(self.value, self.allowance)
+    }
+
+    // Whether the pending figures differ from the committed ones, or a Debit is noted.
+    fn unequal(self) -> bool
+        ensures { λ r. ⌜ r ≡ unequal self ⌝ }
+    {
+        (self.value != self.pending) | (self.left != self.allowance) | self.debited
+    }
+
+    // Whether a standing rule of the purse is broken; log_pending: a new entry or a clear is pending.
+    pub fn breaks(self, limits: Limits, log_pending: bool) -> bool
+        ensures { λ r. ⌜ r ≡ broken limits self «log_pending» ⌝ }
+    {
+        !limits.hold(self.value)
+            | !limits.hold(self.pending)
+            | (Purse::LARGEST < self.allowance)
+            | (self.allowance < self.left)
+            | (Purse::LARGEST < self.debits)
+            | (!self.debited & (self.debits != 0))
+            | (!(self.moved | log_pending) & self.unequal())
+    }
+}

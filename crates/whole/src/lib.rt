@@ -1,0 +1,15 @@
+// Signed numbers of 32 bits and their bits, which are the number modulo 2^32.
+ghost use mathlib.Core.Path.{_≡_};
+ghost use mir.Syntax.{w32};
+ghost use mir.Val.{ofZ};
+
+// The bits of x.
+pub fn bits(x: i32) -> u32
+    ensures { λ r. ⌜ r ≡ ofZ w32 x ⌝ }
+{
+    if x < 0 {
+        0xffff_ffff - (!x as u32)
+    } else {
+        x as u32
+    }
+}

@@ -1,0 +1,23 @@
+use Rattle.wire.specs.Bytes.{four}
+use borrow.Author.Needs.{needs}
+use Rattle.wire.proofs.four_of.Statement.{statement}
+use Rattle.wire.proofs.four_of.Tie as tie
+
+cast-t3 : tie.Need-cast-t3
+cast-t3 c = search needs
+
+cast-t6 : tie.Need-cast-t6
+cast-t6 c = search needs
+
+cast-t9 : tie.Need-cast-t9
+cast-t9 c = search needs
+
+cast-t12 : tie.Need-cast-t12
+cast-t12 c = search needs
+
+returns : tie.Need-returns
+unfolding four
+returns c = search needs
+
+pub four-of-spec : {M : Type 1} → statement M
+four-of-spec = tie.close (tie.spec cast-t3 cast-t6 cast-t9 cast-t12 returns)
