@@ -10,10 +10,12 @@ use lib.ListN.{length}
 use mir.Syntax.{w32}
 use mir.Val.{ofZ}
 use native.Mathlib.Omega.{arith}
-use Rattle.tables.specs.Choice.{pick, any, picked, passed, pick-alike, and-both, or-none, or-no}
+use Rattle.tables.specs.Choice.{pick, any, picked, passed, pick-alike, pick-cases, and-both, or-none, or-no}
 use Rattle.wire.specs.Bytes.{four, outsideOf}
+use Rattle.wire.specs.Laws.{length-four}
 use Rattle.datafiles.specs.declared.Files.{Files}
 use Rattle.datafiles.specs.Files as files
+use Rattle.datafiles.specs.Laws as datafiles
 use Rattle.purse.specs.declared.Limits.{Limits}
 use Rattle.purse.specs.declared.Purse.{Purse}
 use Rattle.purse.specs.Guarded.{creditIn, debitIn, rebookIn}
@@ -23,6 +25,8 @@ use Rattle.logbook.specs.Journal.{Journal}
 use Rattle.logbook.specs.Journal as journal
 use Rattle.logbook.specs.View as log
 use Rattle.logbook.specs.Entries.{length-cut}
+use Rattle.logbook.specs.Fit.{Fit}
+use Rattle.logbook.specs.FitLaws.{shown-room}
 use Rattle.frames.specs.Frame.{fileOf, offsetOf, lengthOf, amountOf}
 use Rattle.commands.specs.Table.{readData, getValue, credit, debit, limitedCredit, readRecords, commitTransaction, abortTransaction}
 use Rattle.commands.specs.State.{Core, State}
@@ -67,7 +71,7 @@ purse-accepted c i d e = purse-inside (c .settings .limits) (c .purse) (length (
 
 -- ---- what is shown
 
-entries-view : (l : Log) → length (log.view l .entries) ≡ l .count
+pub entries-view : (l : Log) → length (log.view l .entries) ≡ l .count
 unfolding log.view
 entries-view l = length-cut (l .count) (l .slots)
 
@@ -99,3 +103,15 @@ module _ (room : ℕ) (s : State) (l : Log) (d : List ℕ) (j : s .core .journal
       (λ _. pick-alike _ (λ t. value-shown (c .purse .value))
       (λ _. pick-alike _ (λ t. entries-shown (entries-inside (c .settings .limits) (c .purse) _ d (at (c .settings .limits) (c .purse) _ d i readRecords o t)))
       (λ _. refl)))
+
+-- a reply's data is at most a whole file
+pub shown-small : (s : State) (i : ℕ) (d : List ℕ) → Fit (s .core .journal) → commandStatus (s .core) i d ≡ ok → length (shown s i d) ≤ 256
+unfolding shown
+shown-small s i d fit e =
+    let c = s .core in
+    let l = c .settings .limits in
+    let o = inside c i d e in
+    pick-cases (λ (x : List ℕ). length x ≤ 256) _ _ _ (λ t. datafiles.shown-small (s .files) _ _ _ (read-inside l (c .purse) _ d (at l (c .purse) _ d i readData o t)))
+    (λ _. pick-cases (λ (x : List ℕ). length x ≤ 256) _ _ _ (λ t. omega (arith, length-four (ofZ w32 (c .purse .value))))
+    (λ _. pick-cases (λ (x : List ℕ). length x ≤ 256) _ _ _ (λ t. omega (arith, shown-room (c .journal) (offsetOf d) (lengthOf d) fit))
+    (λ _. omega arith)))

@@ -1,0 +1,76 @@
+use Rattle.logbook.specs.View.{view}
+use Rattle.card.specs.Order.{command-by}
+use Rattle.card.specs.Laws.{pending-view}
+use Rattle.effects.specs.Laws.{entries-view}
+use borrow.Author.Needs.{needs}
+use Rattle.card.proofs.Card.command_status.Statement.{statement}
+use Rattle.card.proofs.Card.command_status.Tie as tie
+
+byte-at-requires : tie.Need-byte-at-requires
+byte-at-requires c κs = search needs
+
+access-to-requires : tie.Need-access-to-requires
+access-to-requires c κs = search needs
+
+unknown-command-requires : tie.Need-unknown-command-requires
+unknown-command-requires c κs = search needs
+
+wrong-length-requires : tie.Need-wrong-length-requires
+wrong-length-requires c κs = search needs
+
+unknown-file-requires : tie.Need-unknown-file-requires
+unknown-file-requires c κs = search needs
+
+other-kind-or-never-requires : tie.Need-other-kind-or-never-requires
+other-kind-or-never-requires c κs = search needs
+
+not-granted-requires : tie.Need-not-granted-requires
+not-granted-requires c κs = search needs
+
+switched-off-requires : tie.Need-switched-off-requires
+switched-off-requires c κs = search needs
+
+bad-parameter-requires : tie.Need-bad-parameter-requires
+bad-parameter-requires c κs = search needs
+
+is-outside-requires : tie.Need-is-outside-requires
+is-outside-requires c κs = search needs
+
+nothing-pending-requires : tie.Need-nothing-pending-requires
+nothing-pending-requires c κs = search needs
+
+command-order-requires : tie.Need-command-order-requires
+command-order-requires c κs = search needs
+
+returns : tie.Need-returns
+unfolding view
+returns c =
+    let l = c .before .before .before .before .before .before .before .before .before .before .before .before .before .before .args .log in
+    command-by _ _ _ (c .before .before .before .before .before .before .before .before .before .before .before .before .byte-at .ensures) (c .before .before .before .before .before .before .before .before .before .before .before .access-to .ensures) (entries-view l) (pending-view l) (c .command-order .ensures)
+    (c .before .before .before .before .before .before .before .before .before .before .unknown-command .ensures)
+    (c .before .before .before .before .before .before .before .before .before .wrong-length .ensures)
+    (c .before .before .before .before .before .before .before .before .unknown-file .ensures)
+    (c .before .before .before .before .before .before .before .other-kind-or-never .ensures)
+    (c .before .before .before .before .before .before .not-granted .ensures)
+    (c .before .before .before .before .before .switched-off .ensures)
+    (c .before .before .before .before .bad-parameter .ensures)
+    (c .before .before .before .is-outside .ensures)
+    (c .before .nothing-pending .ensures)
+
+pub command-status-spec : {M : Type 1} → statement M
+command-status-spec =
+    tie.close
+    (tie.spec
+    byte-at-requires
+    access-to-requires
+    unknown-command-requires
+    wrong-length-requires
+    unknown-file-requires
+    other-kind-or-never-requires
+    not-granted-requires
+    switched-off-requires
+    bad-parameter-requires
+    is-outside-requires
+    nothing-pending-requires
+    command-order-requires
+    returns)

@@ -1,0 +1,115 @@
+-- The events: personalisation, a command, a session change, a power-up.
+use Prim.Native.Nat.{ℕ}
+use mathlib.Core.List.{List, [], _++_}
+use mathlib.Core.Bool.{Bool, not, false}
+use lib.Dec.{ltb, eqb}
+use lib.IntN.{ℤ, pos}
+use Rattle.tables.specs.Choice.{pick}
+use Rattle.wire.specs.Bytes.{word}
+use Rattle.datafiles.specs.Files as files
+use Rattle.purse.specs.Purse as purse
+use Rattle.logbook.specs.Journal as journal
+use Rattle.logbook.specs.View as log
+use Rattle.access.specs.declared.Session.{Session}
+use Rattle.access.specs.declared.Session.the-variants.{Nobody}
+use Rattle.access.specs.Rights.{sessionSound}
+use Rattle.frames.specs.Frame.{insOf, dataOf}
+use Rattle.commands.specs.declared.Settings.{Settings}
+use Rattle.commands.specs.State.{Core, State, rightsBroken}
+use Rattle.commands.specs.Rows.{ok, statusOf}
+use Rattle.effects.specs.Effects.{changed, shown}
+use Rattle.card.specs.declared.Card.{Card}
+use Rattle.card.specs.View.{view, put}
+use Rattle.card.specs.Rules.{broken}
+use Rattle.card.specs.Outcome.{Outcome, bench}
+
+-- ---- a command
+
+-- a refusal, and a power-up: session ended, pending work dropped
+unfoldable pub ended : State → State
+ended s =
+    record {
+      core = record {
+        settings = s .core .settings;
+        purse = purse.dropped (s .core .purse);
+        journal = journal.dropped (s .core .journal);
+        session = Nobody;
+      };
+      files = s .files;
+    }
+
+-- a state, and the bytes of a reply
+pub record Played : Type 0 where
+  pub state : State
+  pub out : List ℕ
+
+-- a refusal's reply is the two status bytes
+unfoldable pub refused : State → ℕ → Played
+refused s status = record { state = ended s; out = word status }
+
+-- an accepted reply is its data, then 9100
+unfoldable pub accepted : State → ℕ → List ℕ → Played
+accepted s i d = record { state = changed s i d; out = shown s i d ++ word ok }
+
+-- refused with the status of the first reason that applies, accepted where none does
+unfoldable pub played : State → List ℕ → Played
+played s f = pick (eqb (statusOf (s .core) f) ok) (accepted s (insOf f) (dataOf f)) (refused s (statusOf (s .core) f))
+
+-- the card that the played state is laid into
+unfoldable pub laidInto : Card → Played → Outcome
+laidInto c p = record { card = put c (p .state); refusal = 0; out = p .out }
+
+-- the frame f with a reply buffer of room bytes
+unfoldable pub commanded : Card → List ℕ → ℕ → Outcome
+commanded c f room = pick (ltb room 258) (bench c 5) (pick (broken c) (bench c 6) (laidInto c (played (view c) f)))
+
+-- ---- a session change leaves pending work in place
+
+unfoldable pub withSession : State → Session → State
+withSession s k =
+    record {
+      core = record { settings = s .core .settings; purse = s .core .purse; journal = s .core .journal; session = k };
+      files = s .files;
+    }
+
+unfoldable pub sessionChanged : Card → Session → Outcome
+sessionChanged c k =
+    pick (not (sessionSound k)) (bench c 4)
+    (pick (broken c) (bench c 6)
+    (laidInto c (record { state = withSession (view c) k; out = [] })))
+
+-- ---- a power-up
+
+unfoldable pub poweredUp : Card → Outcome
+poweredUp c = pick (broken c) (bench c 6) (laidInto c (record { state = ended (view c); out = [] }))
+
+-- ---- personalisation
+
+-- data files of zeros, the log empty, the allowance 0, no session, nothing pending
+unfoldable pub issued : Settings → ℤ → Card
+issued s v = record { settings = s; files = files.zeros; purse = purse.resting v 0; log = log.empty; session = Nobody }
+
+-- all rights FFFFh, every figure and byte zero, both switches off
+unfoldable pub blankSettings : Settings
+blankSettings =
+    record {
+      r00 = 0xFFFF;
+      r04 = 0xFFFF;
+      r1f = 0xFFFF;
+      r03 = 0xFFFF;
+      r01 = 0xFFFF;
+      limits = record { lower = pos 0; upper = pos 0 };
+      limited = false;
+      free = false;
+    }
+
+unfoldable pub blank : Card
+blank = issued blankSettings (pos 0)
+
+-- a rights nibble is 5 to Dh; lower limit above upper; starting value outside the limits; 0: none of these
+unfoldable pub orderRefusal : Settings → ℤ → ℕ
+orderRefusal s v = pick (rightsBroken s) 1 (pick (purse.crossed (s .limits)) 2 (pick (not (purse.within (s .limits) v)) 3 0))
+
+-- the new card, or the blank one beside the refusal's number
+unfoldable pub personalised : Settings → ℤ → Outcome
+personalised s v = bench (pick (eqb (orderRefusal s v) 0) (issued s v) blank) (orderRefusal s v)

@@ -1,0 +1,168 @@
+-- Laws of the card's parts and events, as the code goes through them.
+use Prim.Native.Nat.{ℕ, _+_, _≤_, _<_}
+use mathlib.Core.Bool.{Bool, true, false, not, _||_}
+use mathlib.Core.List.{List, [], _∷_, _++_}
+use mathlib.Core.Path.{_≡_, refl, sym, ap, _∙_}
+use borrow.Author.Tests.{lt-ltb, le-ltb, eq-eqb, ne-eqb}
+use lib.Dec.{eqb}
+use lib.IntN.{ℤ}
+use lib.ListN.{length, length-append}
+use native.Mathlib.Omega.{arith}
+use Rattle.tables.specs.Choice.{pick, picked, passed, none}
+use Rattle.wire.specs.Bytes.{laid, laidIn, word, Shows}
+use Rattle.wire.specs.Laws.{laid-none, laid-behind, laid-room, length-word, length-laid}
+use Rattle.logbook.specs.declared.Log.{Log}
+use Rattle.logbook.specs.View as log
+use Rattle.logbook.specs.Laws as logbook
+use Rattle.logbook.specs.FitLaws.{fit-view}
+use Rattle.access.specs.declared.Session.{Session}
+use Rattle.access.specs.Rights.{sessionSound}
+use Rattle.frames.specs.Frame.{insOf, dataOf}
+use Rattle.commands.specs.declared.Settings.{Settings}
+use Rattle.commands.specs.State.{State, logPending}
+use Rattle.commands.specs.Rows.{ok, statusOf, commandStatus}
+use Rattle.effects.specs.Effects.{changed, shown}
+use Rattle.effects.specs.Guarded.{shownIn}
+use Rattle.effects.specs.Laws.{shown-accepted, shown-small}
+use Rattle.card.specs.declared.Card.{Card}
+use Rattle.card.specs.declared.Reply.{Reply}
+use Rattle.card.specs.View.{view, put}
+use Rattle.card.specs.Rules.{rules, brokenBy, broken}
+use Rattle.card.specs.Outcome.{Outcome, replyOf, Answered, bench}
+use Rattle.card.specs.Events.{Played, ended, refused, accepted, played, laidInto, commanded, withSession, sessionChanged, poweredUp, issued, blank, orderRefusal, personalised}
+
+-- what is pending on the log by its two flags
+pub pending-view : (l : Log) → logPending (log.view l) ≡ (l .adds || l .clears)
+unfolding logPending log.view log.some pick
+pending-view l = by (l .adds)
+  where
+    by : (b : Bool) → (log.some (pick b (l .entry ∷ []) []) || l .clears) ≡ (b || l .clears)
+    by true = refl
+    by false = refl
+
+-- a card is the state that it stands for, laid into it
+pub put-view : (c : Card) → put c (view c) ≡ c
+unfolding put view
+put-view c = ap (λ (l : Log). record { settings = c .settings; files = c .files; purse = c .purse; log = l; session = c .session }) (logbook.put-view (c .log))
+
+-- a card that breaks no rule has a log that breaks none
+pub log-unbroken : (c : Card) → broken c ≡ false → log.broken (c .log) ≡ false
+unfolding brokenBy
+log-unbroken c e = none (rules (c .settings) (c .purse) (c .log) (c .session)) e .1 .1 .1 .0
+
+-- ---- replies
+
+abbrev pub reply : Card → ℕ → ℕ → Reply
+reply c n len = record { card = c; refusal = n; len = len }
+
+pub bench-reply : (c : Card) (n : ℕ) → reply c n 0 ≡ replyOf (bench c n)
+unfolding bench replyOf
+bench-reply c n = refl
+
+pub bench-answers : (c : Card) (n : ℕ) (b : List ℕ) → Answered (bench c n) b b (reply c n 0)
+unfolding bench replyOf
+bench-answers c n b = (refl, laid-none b)
+
+pub answered-as : (o o′ : Outcome) (b b₂ : List ℕ) (r : Reply) → o ≡ o′ → Answered o b b₂ r → Answered o′ b b₂ r
+answered-as o o′ b b₂ r e a = (cc, cc)
+
+-- a refusal: the status bytes w at the front of a buffer with room for them
+pub refused-answers : (c : Card) (status : ℕ) (b b₂ w : List ℕ) (k : Card) → 258 ≤ length b → k ≡ put c (ended (view c)) → w ≡ word status → b₂ ≡ laidIn b 0 w
+    → Answered (laidInto c (refused (view c) status)) b b₂ (reply k 0 2)
+unfolding laidInto refused replyOf
+refused-answers c status b b₂ w k room ek ew e =
+    let l = length-word status in
+    let q = laid-room b 0 (word status) (omega arith) in
+    (cc, cc)
+
+-- what an accepted command lays at the front is its data
+pub accepted-shows : (c : Card) (i : ℕ) (d b b₁ : List ℕ) (n : ℕ) → commandStatus (view c .core) i d ≡ ok → broken c ≡ false → 258 ≤ length b
+    → length (c .log .slots) ≡ 64 → length (c .log .entry) ≡ 16 → Shows (shownIn (length b) (c .files) (c .purse .value) (c .log) i d) b b₁ n
+    → Shows (shown (view c) i d) b b₁ n × (n ≤ 256)
+unfolding view
+accepted-shows c i d b b₁ n e r room ls le s =
+    let u = log-unbroken c r in
+    let q = shown-accepted (length b) (view c) (c .log) d refl room u i e in
+    let m = shown-small (view c) i d (fit-view (c .log) u ls le) e in
+    let t : n ≡ length (shown (view c) i d) = s .1 ∙ ap length q in
+    ((cc, t), omega arith)
+
+-- an accepted command: its data at the front, and the status bytes w behind them
+pub accepted-answers : (c : Card) (i : ℕ) (d b b₁ b₂ w : List ℕ) (k : Card) (n : ℕ) → 258 ≤ length b → n ≤ 256 → Shows (shown (view c) i d) b b₁ n
+    → k ≡ put c (changed (view c) i d) → w ≡ word ok → b₂ ≡ laidIn b₁ n w → Answered (laidInto c (accepted (view c) i d)) b b₂ (reply k 0 (n + 2))
+unfolding laidInto accepted replyOf
+accepted-answers c i d b b₁ b₂ w k n room small s ek ew e =
+    let x = shown (view c) i d in
+    let lw = length-word ok in
+    let lx : n ≡ length x = s .1 in
+    let lb : length b₁ ≡ length b = ap length (s .0) ∙ length-laid b 0 x (omega arith) in
+    let q : laidIn b₁ n (word ok) ≡ laid b₁ n (word ok) = laid-room b₁ n (word ok) (omega arith) in
+    let z = laid-behind b x (word ok) in
+    let t : length (x ++ word ok) ≡ n + 2 = length-append x (word ok) ∙ (simp (length-word, ← lx)) in
+    (cc, cc)
+
+-- ---- a command
+
+module _ (c : Card) (f : List ℕ) where
+  pub plays-refused : (s : ℕ) → s ≡ statusOf (view c .core) f → (s ≡ ok → ⊥) → laidInto c (refused (view c) s) ≡ laidInto c (played (view c) f)
+  unfolding played
+  plays-refused s e n = ap (laidInto c) (rw e (sym (passed _ _ (ne-eqb _ _ (λ q. n (e ∙ q))))))
+
+  pub plays-accepted : statusOf (view c .core) f ≡ ok → laidInto c (accepted (view c) (insOf f) (dataOf f)) ≡ laidInto c (played (view c) f)
+  unfolding played
+  plays-accepted e = ap (laidInto c) (sym (picked _ _ (eq-eqb _ _ e)))
+
+  module _ (room : ℕ) where
+    pub command-short : room < 258 → bench c 5 ≡ commanded c f room
+    unfolding commanded
+    command-short h = sym (picked _ _ (lt-ltb _ _ h))
+
+    pub command-broken : 258 ≤ room → broken c ≡ true → bench c 6 ≡ commanded c f room
+    unfolding commanded
+    command-broken h b = sym (passed _ _ (le-ltb _ _ h) ∙ picked _ _ b)
+
+    pub command-plays : 258 ≤ room → broken c ≡ false → laidInto c (played (view c) f) ≡ commanded c f room
+    unfolding commanded
+    command-plays h b = sym (passed _ _ (le-ltb _ _ h) ∙ passed _ _ b)
+
+-- ---- the other events
+
+module _ (c : Card) (k : Session) where
+  pub session-unknown : not (sessionSound k) ≡ true → reply c 4 0 ≡ replyOf (sessionChanged c k)
+  unfolding sessionChanged
+  session-unknown e = bench-reply c 4 ∙ ap replyOf (sym (picked _ _ e))
+
+  pub session-broken : not (sessionSound k) ≡ false → broken c ≡ true → reply c 6 0 ≡ replyOf (sessionChanged c k)
+  unfolding sessionChanged
+  session-broken e b = bench-reply c 6 ∙ ap replyOf (sym (passed _ _ e ∙ picked _ _ b))
+
+  pub session-changes : not (sessionSound k) ≡ false → broken c ≡ false
+      → reply (record { settings = c .settings; files = c .files; purse = c .purse; log = c .log; session = k }) 0 0 ≡ replyOf (sessionChanged c k)
+  unfolding sessionChanged
+  session-changes e b = made ∙ ap replyOf (sym (passed _ _ e ∙ passed _ _ b))
+    where
+      made : reply (record { settings = c .settings; files = c .files; purse = c .purse; log = c .log; session = k }) 0 0
+          ≡ replyOf (laidInto c (record { state = withSession (view c) k; out = [] }))
+      made = unfold replyOf laidInto withSession put view in ap (λ (l : Log). reply (record { settings = c .settings; files = c .files; purse = c .purse; log = l; session = k }) 0 0) (sym (logbook.put-view (c .log)))
+
+pub power-broken : (c : Card) → broken c ≡ true → reply c 6 0 ≡ replyOf (poweredUp c)
+unfolding poweredUp
+power-broken c b = bench-reply c 6 ∙ ap replyOf (sym (picked _ _ b))
+
+pub power-ends : (c k : Card) → k ≡ put c (ended (view c)) → broken c ≡ false → reply k 0 0 ≡ replyOf (poweredUp c)
+unfolding poweredUp
+power-ends c k e b = made ∙ ap replyOf (sym (passed _ _ b))
+  where
+    made : reply k 0 0 ≡ replyOf (laidInto c (record { state = ended (view c); out = [] }))
+    made = unfold replyOf laidInto in ap (λ (x : Card). reply x 0 0) e
+
+module _ (s : Settings) (v : ℤ) (n : ℕ) (c : Card) (e : n ≡ orderRefusal s v) where
+  pub order-refused : (n ≡ 0 → ⊥) → c ≡ blank → reply c n 0 ≡ replyOf (personalised s v)
+  unfolding personalised
+  order-refused h k = rw (k, e) (bench-reply blank (orderRefusal s v) ∙ ap (λ (x : Card). replyOf (bench x (orderRefusal s v))) (sym (passed _ _ (ne-eqb _ _ (λ q. h (e ∙ q))))))
+
+  pub order-taken : n ≡ 0 → c ≡ issued s v → reply c 0 0 ≡ replyOf (personalised s v)
+  unfolding personalised pick
+  order-taken h k =
+      let z : orderRefusal s v ≡ 0 = sym e ∙ h in
+      rw (k, z) (bench-reply (issued s v) 0)

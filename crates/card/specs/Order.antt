@@ -1,0 +1,64 @@
+-- The order of checks over what the code's tests answer, in the two parts in which it asks them, and that it is the rows'.
+use Prim.Native.Nat.{ℕ}
+use mathlib.Core.Bool.{Bool}
+use mathlib.Core.List.{List, [], _∷_}
+use mathlib.Core.Path.{_≡_, refl, sym, _∙_}
+use lib.ListN.{length, drop}
+use Rattle.tables.specs.Reasons.{Reason, _when_, first, NoReason, no-reason, first-refuses, first-passes}
+use Rattle.wire.specs.Bytes.{part}
+use Rattle.access.specs.declared.Access.{Access}
+use Rattle.frames.specs.Frame.{insOf, dataStart, dataEnd, dataOf, fileOf, wrongSize, wrongClass, wrongParameters, wrongFrame}
+use Rattle.commands.specs.State.{Core, accessTo, logPending}
+use Rattle.commands.specs.Rows.{unknownCommand, wrongLength, unknownFile, otherKindOrNever, notGranted, switchedOff, badParameter, outside, nothingPending, rowsOf, ok, statusOf, commandStatus}
+
+-- places 1 to 4
+abbrev pub framePart : Bool → Bool → Bool → Bool → List Reason
+framePart size class parameters frame = (0x6700 when size) ∷ (0x6E00 when class) ∷ (0x6A86 when parameters) ∷ (0x6700 when frame) ∷ []
+
+unfoldable pub frameOrder : Bool → Bool → Bool → Bool → ℕ
+frameOrder size class parameters frame = first (framePart size class parameters frame) ok
+
+pub order-of : (f : List ℕ) {r : ℕ} {v1 v2 v3 v4 : Bool} → r ≡ frameOrder v1 v2 v3 v4
+    → v1 ≡ wrongSize f → v2 ≡ wrongClass f → v3 ≡ wrongParameters f → v4 ≡ wrongFrame f
+    → r ≡ frameOrder (wrongSize f) (wrongClass f) (wrongParameters f) (wrongFrame f)
+order-of f e e1 e2 e3 e4 = cc
+
+-- places 5 to 13
+unfoldable pub commandOrder : Bool → Bool → Bool → Bool → Bool → Bool → Bool → Bool → Bool → ℕ
+commandOrder command length file kind grant off value range nothing =
+    first
+    ((0x911C when command)
+    ∷ (0x917E when length)
+    ∷ (0x91F0 when file)
+    ∷ (0x919D when kind)
+    ∷ (0x91AE when grant)
+    ∷ (0x919D when off)
+    ∷ (0x919E when value)
+    ∷ (0x91BE when range)
+    ∷ (0x910C when nothing)
+    ∷ [])
+    ok
+
+-- the command's status from the tests' answers, where they were asked of the file number n, the access a, a log of so many
+-- entries and whether something is pending on it
+pub command-by : (c : Core) (i : ℕ) (d : List ℕ) {n entries r : ℕ} {a : Access} {pending : Bool} {v1 v2 v3 v4 v5 v6 v7 v8 v9 : Bool}
+    → n ≡ fileOf d → a ≡ accessTo (c .settings) (c .session) i n → length (c .journal .entries) ≡ entries → logPending (c .journal) ≡ pending
+    → r ≡ commandOrder v1 v2 v3 v4 v5 v6 v7 v8 v9
+    → v1 ≡ unknownCommand i → v2 ≡ wrongLength i d → v3 ≡ unknownFile i n → v4 ≡ otherKindOrNever i n a → v5 ≡ notGranted i a
+    → v6 ≡ switchedOff i (c .settings .limited) (c .journal .clears) → v7 ≡ badParameter i d
+    → v8 ≡ outside (c .settings .limits) (c .purse) entries i d → v9 ≡ nothingPending i (c .purse .moved) pending → r ≡ commandStatus c i d
+unfolding commandStatus rowsOf commandOrder
+command-by c i d en ea el ep e e1 e2 e3 e4 e5 e6 e7 e8 e9 = cc
+
+module _ (c : Core) (f : List ℕ) where
+  frames : List Reason
+  frames = framePart (wrongSize f) (wrongClass f) (wrongParameters f) (wrongFrame f)
+
+  pub frame-refuses : {s : ℕ} → s ≡ frameOrder (wrongSize f) (wrongClass f) (wrongParameters f) (wrongFrame f) → (s ≡ ok → ⊥) → s ≡ statusOf c f
+  unfolding frameOrder statusOf rowsOf frames
+  frame-refuses e n = e ∙ first-refuses frames (drop 4 (rowsOf c [] (insOf f) (dataOf f))) ok (λ q. n (e ∙ q))
+
+  pub frame-passes : {r i a e : ℕ} → frameOrder (wrongSize f) (wrongClass f) (wrongParameters f) (wrongFrame f) ≡ ok
+      → i ≡ insOf f → a ≡ dataStart (length f) → e ≡ dataEnd (length f) → r ≡ commandStatus c i (part f a e) → r ≡ statusOf c f
+  unfolding frameOrder statusOf commandStatus rowsOf frames
+  frame-passes e ei ea ee q = q ∙ rw (ei, ea, ee) (sym (first-passes frames (drop 4 (rowsOf c [] (insOf f) (dataOf f))) ok (no-reason frames ok refl e)))

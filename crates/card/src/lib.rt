@@ -1,0 +1,436 @@
+// The card: personalisation, and the three events command, session change and power-up.
+use access::Session;
+use commands::Settings;
+use commands::rows;
+use datafiles::Files;
+use logbook::Log;
+use purse::Limits;
+use purse::Purse;
+ghost use mathlib.Core.Path.{_≡_};
+ghost use mathlib.Core.Bool.{false};
+ghost use Prim.Native.Nat.{_≤_};
+ghost use lib.ListN.{length};
+ghost use Rattle.commands.specs.Rows.{statusOf, commandStatus, ok};
+ghost use Rattle.effects.specs.Effects.{changed};
+ghost use Rattle.card.specs.View.{coreOf, view, put};
+ghost use Rattle.card.specs.Rules.{brokenBy, broken};
+ghost use Rattle.card.specs.Outcome.{replyOf, Answered};
+ghost use Rattle.card.specs.Events.{ended, refused, accepted, played, laidInto, commanded, sessionChanged, poweredUp, issued, blank, orderRefusal, personalised};
+ghost use Rattle.card.specs.Order.{frameOrder, commandOrder};
+
+pub struct Card {
+    pub settings: Settings,
+    pub files: Files,
+    pub purse: Purse,
+    pub log: Log,
+    pub session: Session,
+}
+
+// What an event answers: the card, the bench refusal's number or 0, and the length of the reply.
+pub struct Reply {
+    pub card: Card,
+    pub refusal: u8,
+    pub len: usize,
+}
+
+impl Card {
+    pub const REPLY_ROOM: usize = 258;
+
+    pub const SIZE_00: usize = Files::SIZE_00;
+
+    pub const SIZE_04: usize = Files::SIZE_04;
+
+    pub const SIZE_1F: usize = Files::SIZE_1F;
+
+    pub const OK: u16 = 0x9100;
+
+    pub const WRONG_LENGTH: u16 = 0x6700;
+
+    pub const WRONG_CLASS: u16 = 0x6E00;
+
+    pub const WRONG_PARAMETERS: u16 = 0x6A86;
+
+    pub const UNKNOWN_COMMAND: u16 = 0x911C;
+
+    pub const DATA_LENGTH: u16 = 0x917E;
+
+    pub const NO_SUCH_FILE: u16 = 0x91F0;
+
+    pub const DENIED: u16 = 0x919D;
+
+    pub const NOT_GRANTED: u16 = 0x91AE;
+
+    pub const BAD_PARAMETER: u16 = 0x919E;
+
+    pub const OUTSIDE: u16 = 0x91BE;
+
+    pub const NOTHING_PENDING: u16 = 0x910C;
+
+    // Places 1 to 4: the first that applies names the status.
+    fn frame_order(size: bool, class: bool, parameters: bool, frame: bool) -> u16
+        ensures { λ r. ⌜ r ≡ frameOrder size class parameters frame ⌝ }
+    {
+        if size {
+            return Card::WRONG_LENGTH;
+        }
+        if class {
+            return Card::WRONG_CLASS;
+        }
+        if parameters {
+            return Card::WRONG_PARAMETERS;
+        }
+        if frame {
+            return Card::WRONG_LENGTH;
+        }
+        Card::OK
+    }
+
+    // Places 5 to 13.
+    fn command_order(
+        command: bool,
+        length: bool,
+        file: bool,
+        kind: bool,
+        grant: bool,
+        off: bool,
+        value: bool,
+        range: bool,
+        nothing: bool,
+    ) -> u16
+        ensures { λ r. ⌜ r ≡ commandOrder command length file kind grant off value range nothing ⌝ }
+    {
+        if command {
+            return Card::UNKNOWN_COMMAND;
+        }
+        if length {
+            return Card::DATA_LENGTH;
+        }
+        if file {
+            return Card::NO_SUCH_FILE;
+        }
+        if kind {
+            return Card::DENIED;
+        }
+        if grant {
+            return Card::NOT_GRANTED;
+        }
+        if off {
+            return Card::DENIED;
+        }
+        if value {
+            return Card::BAD_PARAMETER;
+        }
+        if range {
+            return Card::OUTSIDE;
+        }
+        if nothing {
+            return Card::NOTHING_PENDING;
+        }
+        Card::OK
+    }
+
+    // The status of the command ins with the data field d.
+    fn command_status(
+        settings: Settings,
+        purse: Purse,
+        log: Log,
+        session: Session,
+        ins: u8,
+        d: &[u8],
+    ) -> u16
+        ensures { λ r. ⌜ r ≡ commandStatus (coreOf settings purse log session) ins (now (d .entry)) ⌝ }
+    {
+        let n = wire::byte_at(d, 0);
+        let access = settings.access_to(session, ins, n);
+        Card::command_order(
+            rows::unknown_command(ins),
+            rows::wrong_length(ins, d),
+            rows::unknown_file(ins, n),
+            rows::other_kind_or_never(ins, n, access),
+            rows::not_granted(ins, access),
+            rows::switched_off(ins, settings.limited, log.clears),
+            rows::bad_parameter(ins, d),
+            rows::is_outside(settings.limits, purse, log.count, ins, d),
+            rows::nothing_pending(ins, purse.moved, log.adds | log.clears),
+        )
+    }
+
+    // The status of a frame.
+    fn status(settings: Settings, purse: Purse, log: Log, session: Session, frame: &[u8]) -> u16
+        ensures { λ r. ⌜ r ≡ statusOf (coreOf settings purse log session) (now (frame .entry)) ⌝ }
+    {
+        let s = Card::frame_order(
+            frames::wrong_size(frame),
+            frames::wrong_class(frame),
+            frames::wrong_parameters(frame),
+            frames::wrong_frame(frame),
+        );
+        if s != Card::OK {
+            return s;
+        }
+        let a = frames::data_start(frame.len());
+        let e = frames::data_end(frame.len());
+        Card::command_status(
+            settings,
+            purse,
+            log,
+            session,
+            wire::byte_at(frame, 1),
+            &frame[a..e],
+        )
+    }
+    // Whether a standing rule is broken.
+    fn breaks(settings: Settings, purse: Purse, log: Log, session: Session) -> bool
+        ensures { λ r. ⌜ r ≡ brokenBy settings purse log session ⌝ }
+    {
+        let limits = settings.limits;
+        let rights = settings.has_wrong_rights();
+        let crossed = limits.are_crossed();
+        let known = session.is_sound();
+        let in_log = log.breaks();
+        let in_purse = purse.breaks(limits, log.adds | log.clears);
+        rights | crossed | !known | in_log | in_purse
+    }
+
+    // The card with its session ended and pending work dropped.
+    fn ended(self) -> Card
+        ensures { λ r. ⌜ r ≡ put self (ended (view self)) ⌝ }
+    {
+        let settings = self.settings;
+        let files = self.files;
+        let purse = self.purse;
+        let log = self.log;
+        Card {
+            settings,
+            files,
+            purse: purse.drop_pending(),
+            log: log.drop_pending(),
+            session: Session::Nobody,
+        }
+    }
+
+    // The card that an accepted command leaves.
+    fn changed(self, ins: u8, d: &[u8]) -> Card
+        requires { ⌜ commandStatus (view self .core) ins (now d) ≡ ok ⌝ }
+        ensures { λ r. ⌜ r ≡ put self (changed (view self) ins (now (d .entry))) ⌝ }
+    {
+        let settings = self.settings;
+        let files = self.files;
+        let purse = self.purse;
+        let log = self.log;
+        let session = self.session;
+        Card {
+            settings,
+            files: effects::next_files(files, ins, d),
+            purse: effects::next_purse(purse, settings.limits, ins, d),
+            log: effects::next_log(log, ins, d),
+            session,
+        }
+    }
+
+    // A refusal: the two status bytes.
+    fn refused(self, status: u16, reply: &mut [u8]) -> Reply
+        requires { ⌜ 258 ≤ length (now reply) ⌝ }
+        ensures { λ r. ⌜ Answered (laidInto self (refused (view self) status)) (now (reply .entry)) (now (reply .exit)) r ⌝ }
+    {
+        let card = self.ended();
+        let two = wire::word_of(status);
+        wire::lay(reply, 0, &two);
+        Reply {
+            card,
+            refusal: 0,
+            len: 2,
+        }
+    }
+
+    // An accepted command: its data, then 9100.
+    fn accepted(self, ins: u8, d: &[u8], reply: &mut [u8]) -> Reply
+        requires { ⌜ (commandStatus (view self .core) ins (now d) ≡ ok) × (broken self ≡ false) × (258 ≤ length (now reply)) ⌝ }
+        ensures { λ r. ⌜ Answered (laidInto self (accepted (view self) ins (now (d .entry)))) (now (reply .entry)) (now (reply .exit)) r ⌝ }
+    {
+        let files = self.files;
+        let purse = self.purse;
+        let log = self.log;
+        let n = effects::show(files, purse.value, log, ins, d, reply);
+        let card = self.changed(ins, d);
+        let two = wire::word_of(Card::OK);
+        wire::lay(reply, n, &two);
+        Reply {
+            card,
+            refusal: 0,
+            len: n + 2,
+        }
+    }
+
+    // Refused with the status of the first reason that applies, or accepted.
+    fn judged(self, frame: &[u8], reply: &mut [u8]) -> Reply
+        requires { ⌜ (broken self ≡ false) × (258 ≤ length (now reply)) ⌝ }
+        ensures { λ r. ⌜ Answered (laidInto self (played (view self) (now (frame .entry)))) (now (reply .entry)) (now (reply .exit)) r ⌝ }
+    {
+        let settings = self.settings;
+        let purse = self.purse;
+        let log = self.log;
+        let session = self.session;
+        let status = Card::status(settings, purse, log, session, frame);
+        if status != Card::OK {
+            return self.refused(status, reply);
+        }
+        let a = frames::data_start(frame.len());
+        let e = frames::data_end(frame.len());
+        self.accepted(wire::byte_at(frame, 1), &frame[a..e], reply)
+    }
+
+    // A command, with a buffer for its reply.
+    pub fn command(self, frame: &[u8], reply: &mut [u8]) -> Reply
+        ensures { λ r. ⌜ Answered (commanded self (now (frame .entry)) (length (now (reply .entry)))) (now (reply .entry)) (now (reply .exit)) r ⌝ }
+    {
+        if reply.len() < Card::REPLY_ROOM {
+            return Reply {
+                card: self,
+                refusal: 5,
+                len: 0,
+            };
+        }
+        let settings = self.settings;
+        let purse = self.purse;
+        let log = self.log;
+        let session = self.session;
+        if Card::breaks(settings, purse, log, session) {
+            return Reply {
+                card: self,
+                refusal: 6,
+                len: 0,
+            };
+        }
+        self.judged(frame, reply)
+    }
+
+    // A session change: a key 0 to 4, or none.
+    pub fn change_session(self, session: Session) -> Reply
+        ensures { λ r. ⌜ r ≡ replyOf (sessionChanged self session) ⌝ }
+    {
+        if !session.is_sound() {
+            return Reply {
+                card: self,
+                refusal: 4,
+                len: 0,
+            };
+        }
+        let settings = self.settings;
+        let files = self.files;
+        let purse = self.purse;
+        let log = self.log;
+        let old = self.session;
+        if Card::breaks(settings, purse, log, old) {
+            return Reply {
+                card: self,
+                refusal: 6,
+                len: 0,
+            };
+        }
+        let card = Card {
+            settings,
+            files,
+            purse,
+            log,
+            session,
+        };
+        Reply {
+            card,
+            refusal: 0,
+            len: 0,
+        }
+    }
+
+    // A power-up ends the session and drops pending work.
+    pub fn power_up(self) -> Reply
+        ensures { λ r. ⌜ r ≡ replyOf (poweredUp self) ⌝ }
+    {
+        let settings = self.settings;
+        let purse = self.purse;
+        let log = self.log;
+        let session = self.session;
+        if Card::breaks(settings, purse, log, session) {
+            return Reply {
+                card: self,
+                refusal: 6,
+                len: 0,
+            };
+        }
+        let card = self.ended();
+        Reply {
+            card,
+            refusal: 0,
+            len: 0,
+        }
+    }
+
+    // A card with these settings and this value, and nothing else on it.
+    fn issued(settings: Settings, value: i32) -> Card
+        ensures { λ r. ⌜ r ≡ issued settings value ⌝ }
+    {
+        Card {
+            settings,
+            files: Files::zeros(),
+            purse: Purse::resting(value, 0),
+            log: Log::empty(),
+            session: Session::Nobody,
+        }
+    }
+
+    // The card beside a refused personalisation.
+    fn blank() -> Card
+        ensures { λ r. ⌜ r ≡ blank ⌝ }
+    {
+        let settings = Settings {
+            r00: 0xFFFF,
+            r04: 0xFFFF,
+            r1f: 0xFFFF,
+            r03: 0xFFFF,
+            r01: 0xFFFF,
+            limits: Limits { lower: 0, upper: 0 },
+            limited: false,
+            free: false,
+        };
+        Card::issued(settings, 0)
+    }
+
+    // A new card, or a bench refusal with the blank one beside it.
+    pub fn personalise(settings: Settings, value: i32) -> Reply
+        ensures { λ r. ⌜ r ≡ replyOf (personalised settings value) ⌝ }
+    {
+        let refusal = Card::order_refusal(settings, value);
+        if refusal != 0 {
+            return Reply {
+                card: Card::blank(),
+                refusal,
+                len: 0,
+            };
+        }
+        Reply {
+            card: Card::issued(settings, value),
+            refusal: 0,
+            len: 0,
+        }
+    }
+
+    // The bench refusal of a personalisation, or 0.
+    fn order_refusal(settings: Settings, value: i32) -> u8
+        ensures { λ r. ⌜ r ≡ orderRefusal settings value ⌝ }
+    {
+        let limits = settings.limits;
+        let rights = settings.has_wrong_rights();
+        let crossed = limits.are_crossed();
+        let held = limits.hold(value);
+        if rights {
+            return 1;
+        }
+        if crossed {
+            return 2;
+        }
+        if !held {
+            return 3;
+        }
+        0
+    }
+}
