@@ -1,0 +1,1 @@
+// Definitions and one theorem alone, in specs/: the worked examples at the edges, as the definitions answer them.
