@@ -10,10 +10,10 @@ use Rattle.commands.proofs.rows.amount_is_outside.Statement.{statement}
 use Rattle.commands.proofs.rows.amount_is_outside.Tie as tie
 
 hold-rise-requires : tie.Need-hold-rise-requires
-hold-rise-requires c κs = search needs
+hold-rise-requires c κs = tt
 
 hold-fall-requires : tie.Need-hold-fall-requires
-hold-fall-requires c κs = search needs
+hold-fall-requires c κs = tt
 
 returns : tie.Need-returns
 unfolding amountCases
@@ -22,7 +22,7 @@ returns c =
     let f : SFits w32 (a .purse .pending) = search needs in
     let up : c .before .before .before .hold-rise .result ≡ within (a .limits) (a .purse .pending +ℤ pos (a .amount)) = simp (toZ-ofZ, f) at (c .before .before .before .hold-rise .ensures) in
     let down : c .before .hold-fall .result ≡ within (a .limits) (a .purse .pending -ℤ pos (a .amount)) = simp (toZ-ofZ, f) at (c .before .hold-fall .ensures) in
-    cc
+    simp (up, down)
 
 pub amount-is-outside-spec : {M : Type 1} → statement M
 amount-is-outside-spec = tie.close (tie.spec hold-rise-requires hold-fall-requires returns)
