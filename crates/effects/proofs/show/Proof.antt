@@ -1,5 +1,6 @@
 use mir.Facts.{toZ-ofZ}
 use Rattle.effects.specs.Guarded.{shownIn}
+use Rattle.datafiles.specs.Files as files
 use Rattle.wire.specs.Laws.{shows-as, shows-none}
 use Rattle.tables.specs.Choice.{order}
 use borrow.Author.Needs.{needs}
@@ -26,7 +27,7 @@ unfolding shownIn
 returns c =
     let s = c .before .before in
     let l = s .before .before in
-    shows-as _ _ _ _ _ (search order) (simp (l .le3-at2 .ensures, l .before .le3-at .ensures, l .before .before .byte-at .ensures) at (s .show .ensures))
+    shows-as (files.shownIn _ _ _ _ _) _ _ _ _ (search order) (simp (l .le3-at2 .ensures, l .before .le3-at .ensures, l .before .before .byte-at .ensures) at (s .show .ensures))
 
 show-value-requires : tie.Need-show-value-requires
 show-value-requires c κs = tt
