@@ -1,39 +1,30 @@
-use Rattle.access.specs.Rights.{accessOf, sealed, granted}
-use Rattle.tables.specs.Choice.{choice}
-use mathlib.Core.Bool.{true, false, _||_}
-use mathlib.Core.Path.{_≡_}
-use borrow.Author.Needs.{needs}
+use Rattle.access.specs.Rights.{accessOf}
+use Rattle.tables.specs.Choice.{hit, skip}
+use mathlib.Core.Path.{refl, sym, _∙_}
 use Rattle.access.proofs.decide.Statement.{statement}
 use Rattle.access.proofs.decide.Tie as tie
 
 is-sealed-requires : tie.Need-is-sealed-requires
-is-sealed-requires c κs = search needs
+is-sealed-requires c κs = tt
 
 returns : tie.Need-returns
 unfolding accessOf
-returns c =
-    let a = c .before .before .args in
-    let s : sealed (a .x) (a .by-read) (a .by-write) ≡ true = cc in
-    search choice
+returns c = hit _ _ _ (sym (c .before .is-sealed .ensures) ∙ c .if1 .taken) refl
 
 is-granted-requires : tie.Need-is-granted-requires
-is-granted-requires c κs = search needs
+is-granted-requires c κs = tt
 
 returns-2 : tie.Need-returns-2
 unfolding accessOf
 returns-2 c =
-    let a = c .before .before .before .before .args in
-    let s : sealed (a .x) (a .by-read) (a .by-write) ≡ false = cc in
-    let g : (a .always || granted (a .x) (a .session) (a .by-read) (a .by-write)) ≡ true = cc in
-    search choice
+    let i = c .before .before in
+    skip _ _ _ (sym (i .before .is-sealed .ensures) ∙ i .if1 .left) (hit _ _ _ (simp (c .before .is-granted .ensures) at (c .if2 .taken)) refl)
 
 returns-3 : tie.Need-returns-3
 unfolding accessOf
 returns-3 c =
-    let a = c .before .before .before .before .args in
-    let s : sealed (a .x) (a .by-read) (a .by-write) ≡ false = cc in
-    let g : (a .always || granted (a .x) (a .session) (a .by-read) (a .by-write)) ≡ false = cc in
-    search choice
+    let i = c .before .before in
+    skip _ _ _ (sym (i .before .is-sealed .ensures) ∙ i .if1 .left) (skip _ _ _ (simp (c .before .is-granted .ensures) at (c .if2 .left)) refl)
 
 pub decide-spec : {M : Type 1} → statement M
 decide-spec =

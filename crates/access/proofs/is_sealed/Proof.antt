@@ -1,20 +1,19 @@
 use Rattle.access.specs.Rights.{sealed}
-use borrow.Author.Needs.{needs}
 use Rattle.access.proofs.is_sealed.Statement.{statement}
 use Rattle.access.proofs.is_sealed.Tie as tie
 
 read-of-requires : tie.Need-read-of-requires
-read-of-requires c κs = search needs
+read-of-requires c κs = tt
 
 write-of-requires : tie.Need-write-of-requires
-write-of-requires c κs = search needs
+write-of-requires c κs = tt
 
 read-write-of-requires : tie.Need-read-write-of-requires
-read-write-of-requires c κs = search needs
+read-write-of-requires c κs = tt
 
 returns : tie.Need-returns
 unfolding sealed
-returns c = cc
+returns c = simp (c .read-write-of .ensures, c .before .write-of .ensures, c .before .before .read-of .ensures)
 
 pub is-sealed-spec : {M : Type 1} → statement M
 is-sealed-spec =

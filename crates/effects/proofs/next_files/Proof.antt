@@ -1,24 +1,21 @@
 use Rattle.effects.specs.Effects.{filesAfter}
 use Rattle.frames.specs.Laws.{bytes-inside, bytes-from}
-use Rattle.frames.specs.Frame.{fileOf, offsetOf, bytesIn}
-use Rattle.datafiles.specs.Files.{written}
 use Rattle.tables.specs.Choice.{order}
 use lib.ListN.{length}
 use denote.Ref.{now}
 use native.Mathlib.Omega.{arith}
-use mathlib.Core.Path.{_≡_}
 use borrow.Author.Needs.{needs}
 use Rattle.effects.proofs.next_files.Statement.{statement}
 use Rattle.effects.proofs.next_files.Tie as tie
 
 bytes-start-requires : tie.Need-bytes-start-requires
-bytes-start-requires c κs = search needs
+bytes-start-requires c κs = tt
 
 byte-at-requires : tie.Need-byte-at-requires
-byte-at-requires c κs = search needs
+byte-at-requires c κs = tt
 
 le3-at-requires : tie.Need-le3-at-requires
-le3-at-requires c κs = search needs
+le3-at-requires c κs = tt
 
 sub-write : tie.Need-sub-write
 sub-write c = let h = bytes-inside (length (now (c .before .before .before .before .before .args .d))) in omega arith
@@ -30,16 +27,15 @@ part-write-end : tie.Need-part-write-end
 part-write-end c = search needs
 
 write-requires : tie.Need-write-requires
-write-requires c κs = search needs
+write-requires c κs = tt
 
 returns : tie.Need-returns
 unfolding filesAfter
 returns c =
-    let a = c .before .before .before .before .before .before .before .args in
-    let d = now (a .d) in
-    let b = bytes-from d in
-    let f : written (a .files) (fileOf d) (offsetOf d) (bytesIn d) ≡ filesAfter (a .ins) d (a .files) = search order in
-    cc
+    let l = c .before .before in
+    let b = l .before .before in
+    let e = simp (l .le3-at .ensures, l .before .byte-at .ensures, b .bytes-start .ensures, bytes-from (now (b .before .before .before .args .d))) at (c .write .ensures) in
+    search order
 
 returns-2 : tie.Need-returns-2
 unfolding filesAfter

@@ -1,55 +1,41 @@
-use Rattle.purse.specs.Guarded.{creditIn, debitIn, rebookIn}
-use Rattle.frames.specs.Frame.{amountOf}
-use denote.Ref.{now}
-use mathlib.Core.Path.{_≡_}
 use Rattle.tables.specs.Choice.{order}
 use Rattle.effects.specs.Guarded.{purseIn}
-use borrow.Author.Needs.{needs}
 use Rattle.effects.proofs.next_purse.Statement.{statement}
 use Rattle.effects.proofs.next_purse.Tie as tie
 
 le4-at-requires : tie.Need-le4-at-requires
-le4-at-requires c κs = search needs
+le4-at-requires c κs = tt
 
 credit-requires : tie.Need-credit-requires
-credit-requires c κs = search needs
+credit-requires c κs = tt
 
 returns : tie.Need-returns
 unfolding purseIn
-returns c =
-    let a = c .before .before .before .before .args in
-    let k : creditIn (a .limits) (a .purse) (amountOf (now (a .d))) ≡ purseIn (a .limits) (a .ins) (now (a .d)) (a .purse) = search order in
-    cc
+returns c = let e = simp (c .before .before .le4-at .ensures) at (c .credit .ensures) in search order
 
 debit-requires : tie.Need-debit-requires
-debit-requires c κs = search needs
+debit-requires c κs = tt
 
 returns-2 : tie.Need-returns-2
 unfolding purseIn
-returns-2 c =
-    let a = c .before .before .before .before .before .args in
-    let k : debitIn (a .limits) (a .purse) (amountOf (now (a .d))) ≡ purseIn (a .limits) (a .ins) (now (a .d)) (a .purse) = search order in
-    cc
+returns-2 c = let e = simp (c .before .before .before .le4-at .ensures) at (c .debit .ensures) in search order
 
 rebook-requires : tie.Need-rebook-requires
-rebook-requires c κs = search needs
+rebook-requires c κs = tt
 
 returns-3 : tie.Need-returns-3
 unfolding purseIn
-returns-3 c =
-    let a = c .before .before .before .before .before .before .args in
-    let k : rebookIn (a .limits) (a .purse) (amountOf (now (a .d))) ≡ purseIn (a .limits) (a .ins) (now (a .d)) (a .purse) = search order in
-    cc
+returns-3 c = let e = simp (c .before .before .before .before .le4-at .ensures) at (c .rebook .ensures) in search order depth 9
 
 commit-requires : tie.Need-commit-requires
-commit-requires c κs = search needs
+commit-requires c κs = tt
 
 returns-4 : tie.Need-returns-4
 unfolding purseIn
 returns-4 c = search order depth 9
 
 drop-pending-requires : tie.Need-drop-pending-requires
-drop-pending-requires c κs = search needs
+drop-pending-requires c κs = tt
 
 returns-5 : tie.Need-returns-5
 unfolding purseIn

@@ -5,10 +5,9 @@ use Rattle.tables.specs.Choice.{choice}
 use mir.Facts.{toZ-ofZ}
 use mir.Val.{ofZ}
 use mir.Syntax.{w32}
-use lib.ListN.{length}
 use denote.Ref.{now}
 use native.Mathlib.Omega.{arith}
-use mathlib.Core.Path.{_≡_}
+use mathlib.Core.Path.{sym, _∙_}
 use borrow.Author.Needs.{needs}
 use Rattle.effects.proofs.show_value.Statement.{statement}
 use Rattle.effects.proofs.show_value.Tie as tie
@@ -18,16 +17,16 @@ unfolding valueIn
 returns c = shows-as _ _ _ _ _ (search choice) (shows-none (now (c .before .before .args .reply)))
 
 bits-requires : tie.Need-bits-requires
-bits-requires c κs = search needs
+bits-requires c κs = tt
 
 four-of-requires : tie.Need-four-of-requires
-four-of-requires c κs = search needs
+four-of-requires c κs = tt
 
 slice-aggregate-lay : tie.Need-slice-aggregate-lay
 slice-aggregate-lay c = search needs
 
 lay-requires : tie.Need-lay-requires
-lay-requires c κs = search needs
+lay-requires c κs = tt
 
 same-length : tie.Need-same-length
 same-length c = search needs
@@ -35,14 +34,13 @@ same-length c = search needs
 returns-2 : tie.Need-returns-2
 unfolding valueIn
 returns-2 c =
-    let s = c .before in
-    let a = s .before .before .before .before .before .before .before .before .args in
-    let b = now (a .reply) in
-    let v : c .before .before .before .before .before .four-of .result ≡ four (ofZ w32 (a .value)) = cc (toZ-ofZ (s .before .before .before .before .before .before .before .before .fits .value)) in
-    let l = length-four (ofZ w32 (a .value)) in
-    let r = laid-room b 0 (four (ofZ w32 (a .value))) (omega arith) in
-    let k : four (ofZ w32 (a .value)) ≡ valueIn (length b) (a .value) = search choice in
-    (cc, cc)
+    let l = c .before .before in
+    let f = l .before .before .before in
+    let s = f .before .before .before .before in
+    let b = now (s .args .reply) in
+    let v = four (ofZ w32 (s .args .value)) in
+    let n = length-four (ofZ w32 (s .args .value)) in
+    shows-as v _ _ _ _ (search choice) (simp (f .four-of .ensures, f .before .bits .ensures, toZ-ofZ (s .fits .value)) at (l .lay .ensures) ∙ laid-room b 0 v (omega arith), sym n)
 
 pub show-value-spec : {M : Type 1} → statement M
 show-value-spec =

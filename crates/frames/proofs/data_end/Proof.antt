@@ -5,7 +5,7 @@ use Rattle.frames.proofs.data_end.Statement.{statement}
 use Rattle.frames.proofs.data_end.Tie as tie
 
 data-start-requires : tie.Need-data-start-requires
-data-start-requires c κs = search needs
+data-start-requires c κs = tt
 
 returns : tie.Need-returns
 unfolding dataEnd

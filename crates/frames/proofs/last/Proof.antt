@@ -8,7 +8,7 @@ use Rattle.frames.proofs.last.Statement.{statement}
 use Rattle.frames.proofs.last.Tie as tie
 
 byte-at-requires : tie.Need-byte-at-requires
-byte-at-requires c κs = search needs
+byte-at-requires c κs = tt
 
 returns : tie.Need-returns
 returns c =
@@ -19,7 +19,7 @@ sub-byte-at : tie.Need-sub-byte-at
 sub-byte-at c = search needs
 
 byte-at-requires-2 : tie.Need-byte-at-requires-2
-byte-at-requires-2 c κs = search needs
+byte-at-requires-2 c κs = tt
 
 returns-2 : tie.Need-returns-2
 returns-2 c = search needs

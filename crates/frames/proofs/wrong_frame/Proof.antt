@@ -4,10 +4,10 @@ use Rattle.frames.proofs.wrong_frame.Statement.{statement}
 use Rattle.frames.proofs.wrong_frame.Tie as tie
 
 byte-at-requires : tie.Need-byte-at-requires
-byte-at-requires c κs = search needs
+byte-at-requires c κs = tt
 
 last-requires : tie.Need-last-requires
-last-requires c κs = search needs
+last-requires c κs = tt
 
 cast-result : tie.Need-cast-result
 cast-result c = search needs
@@ -17,7 +17,7 @@ add-result c = search needs
 
 returns : tie.Need-returns
 unfolding wrongFrame
-returns c = cc
+returns c = simp (c .last .ensures, c .before .byte-at .ensures)
 
 pub wrong-frame-spec : {M : Type 1} → statement M
 wrong-frame-spec =

@@ -1,46 +1,45 @@
-use Rattle.commands.specs.Rows.{outside, ranged}
+use Rattle.commands.specs.Rows.{outside}
 use Rattle.tables.specs.Choice.{hit, skip}
-use mathlib.Core.Bool.{true, false}
-use mathlib.Core.Path.{_≡_}
-use borrow.Author.Needs.{needs}
+use mathlib.Core.Path.{sym, _∙_}
 use Rattle.commands.proofs.rows.is_outside.Statement.{statement}
 use Rattle.commands.proofs.rows.is_outside.Tie as tie
 
 has-range-requires : tie.Need-has-range-requires
-has-range-requires c κs = search needs
+has-range-requires c κs = tt
 
 byte-at-requires : tie.Need-byte-at-requires
-byte-at-requires c κs = search needs
+byte-at-requires c κs = tt
 
 room-of-requires : tie.Need-room-of-requires
-room-of-requires c κs = search needs
+room-of-requires c κs = tt
 
 le3-at-requires : tie.Need-le3-at-requires
-le3-at-requires c κs = search needs
+le3-at-requires c κs = tt
 
 le3-at-requires-2 : tie.Need-le3-at-requires-2
-le3-at-requires-2 c κs = search needs
+le3-at-requires-2 c κs = tt
 
 is-outside-requires : tie.Need-is-outside-requires
-is-outside-requires c κs = search needs
+is-outside-requires c κs = tt
 
 returns : tie.Need-returns
 unfolding outside
 returns c =
-    let r : ranged (c .before .before .before .before .before .before .before .before .args .ins) ≡ true = cc in
-    hit _ _ _ r cc
+    let r = c .before .before .before in
+    let i = r .before .before in
+    hit _ _ _ (sym (i .before .has-range .ensures) ∙ i .if1 .taken) (simp (c .is-outside .ensures, r .room-of .ensures, r .before .byte-at .ensures, c .before .before .le3-at .ensures, c .before .le3-at2 .ensures))
 
 le4-at-requires : tie.Need-le4-at-requires
-le4-at-requires c κs = search needs
+le4-at-requires c κs = tt
 
 amount-is-outside-requires : tie.Need-amount-is-outside-requires
-amount-is-outside-requires c κs = search needs
+amount-is-outside-requires c κs = tt
 
 returns-2 : tie.Need-returns-2
 unfolding outside
 returns-2 c =
-    let r : ranged (c .before .before .before .before .before .args .ins) ≡ false = cc in
-    skip _ _ _ r cc
+    let i = c .before .before in
+    skip _ _ _ (sym (i .before .has-range .ensures) ∙ i .if1 .left) (simp (c .amount-is-outside .ensures, c .before .le4-at .ensures))
 
 pub is-outside-spec : {M : Type 1} → statement M
 is-outside-spec =

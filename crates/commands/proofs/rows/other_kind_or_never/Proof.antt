@@ -1,20 +1,19 @@
 use Rattle.commands.specs.Rows.{otherKindOrNever}
-use borrow.Author.Needs.{needs}
 use Rattle.commands.proofs.rows.other_kind_or_never.Statement.{statement}
 use Rattle.commands.proofs.rows.other_kind_or_never.Tie as tie
 
 on-file-requires : tie.Need-on-file-requires
-on-file-requires c κs = search needs
+on-file-requires c κs = tt
 
 suits-file-requires : tie.Need-suits-file-requires
-suits-file-requires c κs = search needs
+suits-file-requires c κs = tt
 
 is-never-requires : tie.Need-is-never-requires
-is-never-requires c κs = search needs
+is-never-requires c κs = tt
 
 returns : tie.Need-returns
 unfolding otherKindOrNever
-returns c = cc
+returns c = simp (c .is-never .ensures, c .before .suits-file .ensures, c .before .before .on-file .ensures)
 
 pub other-kind-or-never-spec : {M : Type 1} → statement M
 other-kind-or-never-spec =

@@ -1,6 +1,5 @@
 use Rattle.tables.specs.Choice.{order}
 use Rattle.commands.specs.Rows.{roomOf}
-use borrow.Author.Needs.{needs}
 use Rattle.commands.proofs.rows.room_of.Statement.{statement}
 use Rattle.commands.proofs.rows.room_of.Tie as tie
 
@@ -13,7 +12,7 @@ unfolding roomOf
 returns-2 c = search order
 
 size-requires : tie.Need-size-requires
-size-requires c κs = search needs
+size-requires c κs = tt
 
 returns-3 : tie.Need-returns-3
 unfolding roomOf

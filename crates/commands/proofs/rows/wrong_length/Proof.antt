@@ -4,7 +4,7 @@ use Rattle.commands.proofs.rows.wrong_length.Statement.{statement}
 use Rattle.commands.proofs.rows.wrong_length.Tie as tie
 
 le3-at-requires : tie.Need-le3-at-requires
-le3-at-requires c κs = search needs
+le3-at-requires c κs = tt
 
 cast-with-bytes : tie.Need-cast-with-bytes
 cast-with-bytes c = search needs
@@ -14,7 +14,7 @@ add-with-bytes c = search needs
 
 returns : tie.Need-returns
 unfolding lengthCases
-returns c = cc
+returns c = simp (c .le3-at .ensures)
 
 pub wrong-length-spec : {M : Type 1} → statement M
 wrong-length-spec = tie.close (tie.spec le3-at-requires cast-with-bytes add-with-bytes returns)

@@ -22,7 +22,7 @@ part-lay-end c =
     omega arith
 
 lay-requires : tie.Need-lay-requires
-lay-requires c κs = search needs
+lay-requires c κs = tt
 
 sub-result : tie.Need-sub-result
 sub-result c = search needs
@@ -51,7 +51,7 @@ part-lay-end-2 c =
     omega arith
 
 lay-requires-2 : tie.Need-lay-requires-2
-lay-requires-2 c κs = search needs
+lay-requires-2 c κs = tt
 
 sub-result-2 : tie.Need-sub-result-2
 sub-result-2 c = search needs
@@ -80,7 +80,7 @@ part-lay-end-3 c =
     omega arith
 
 lay-requires-3 : tie.Need-lay-requires-3
-lay-requires-3 c κs = search needs
+lay-requires-3 c κs = tt
 
 sub-result-3 : tie.Need-sub-result-3
 sub-result-3 c = search needs
