@@ -59,9 +59,13 @@ played s f = pick (eqb (statusOf (s .core) f) ok) (accepted s (insOf f) (dataOf 
 unfoldable pub laidInto : Card → Played → Outcome
 laidInto c p = record { card = put c (p .state); refusal = 0; out = p .out }
 
+-- the room that every reply has in its buffer
+abbrev pub replyRoom : ℕ
+replyRoom = 258
+
 -- the frame f with a reply buffer of room bytes
 unfoldable pub commanded : Card → List ℕ → ℕ → Outcome
-commanded c f room = pick (ltb room 258) (bench c 5) (pick (broken c) (bench c 6) (laidInto c (played (view c) f)))
+commanded c f room = pick (ltb room replyRoom) (bench c 5) (pick (broken c) (bench c 6) (laidInto c (played (view c) f)))
 
 -- ---- a session change leaves pending work in place
 

@@ -29,7 +29,7 @@ use Rattle.card.specs.declared.Reply.{Reply}
 use Rattle.card.specs.View.{view, put}
 use Rattle.card.specs.Rules.{rules, brokenBy, broken}
 use Rattle.card.specs.Outcome.{Outcome, replyOf, Answered, bench}
-use Rattle.card.specs.Events.{Played, ended, refused, accepted, played, laidInto, commanded, withSession, sessionChanged, poweredUp, issued, blank, orderRefusal, personalised}
+use Rattle.card.specs.Events.{Played, ended, refused, accepted, played, laidInto, replyRoom, commanded, withSession, sessionChanged, poweredUp, issued, blank, orderRefusal, personalised}
 
 -- what is pending on the log by its two flags
 pub pending-view : (l : Log) → logPending (log.view l) ≡ (l .adds || l .clears)
@@ -67,7 +67,7 @@ pub answered-as : (o o′ : Outcome) (b b₂ : List ℕ) (r : Reply) → o ≡ o
 answered-as o o′ b b₂ r e a = (cc, cc)
 
 -- a refusal: the status bytes w at the front of a buffer with room for them
-pub refused-answers : (c : Card) (status : ℕ) (b b₂ w : List ℕ) (k : Card) → 258 ≤ length b → k ≡ put c (ended (view c)) → w ≡ word status → b₂ ≡ laidIn b 0 w
+pub refused-answers : (c : Card) (status : ℕ) (b b₂ w : List ℕ) (k : Card) → replyRoom ≤ length b → k ≡ put c (ended (view c)) → w ≡ word status → b₂ ≡ laidIn b 0 w
     → Answered (laidInto c (refused (view c) status)) b b₂ (reply k 0 2)
 unfolding laidInto refused replyOf
 refused-answers c status b b₂ w k room ek ew e =
@@ -76,19 +76,19 @@ refused-answers c status b b₂ w k room ek ew e =
     (cc, cc)
 
 -- what an accepted command lays at the front is its data
-pub accepted-shows : (c : Card) (i : ℕ) (d b b₁ : List ℕ) (n : ℕ) → commandStatus (view c .core) i d ≡ ok → broken c ≡ false → 258 ≤ length b
+pub accepted-shows : (c : Card) (i : ℕ) (d b b₁ : List ℕ) (n : ℕ) → commandStatus (view c .core) i d ≡ ok → broken c ≡ false → replyRoom ≤ length b
     → length (c .log .slots) ≡ 64 → length (c .log .entry) ≡ 16 → Shows (shownIn (length b) (c .files) (c .purse .value) (c .log) i d) b b₁ n
     → Shows (shown (view c) i d) b b₁ n × (n ≤ 256)
 unfolding view
 accepted-shows c i d b b₁ n e r room ls le s =
     let u = log-unbroken c r in
-    let q = shown-accepted (length b) (view c) (c .log) d refl room u i e in
+    let q = shown-accepted (length b) (view c) (c .log) d refl (omega arith) u i e in
     let m = shown-small (view c) i d (fit-view (c .log) u ls le) e in
     let t : n ≡ length (shown (view c) i d) = s .1 ∙ ap length q in
     ((cc, t), omega arith)
 
 -- an accepted command: its data at the front, and the status bytes w behind them
-pub accepted-answers : (c : Card) (i : ℕ) (d b b₁ b₂ w : List ℕ) (k : Card) (n : ℕ) → 258 ≤ length b → n ≤ 256 → Shows (shown (view c) i d) b b₁ n
+pub accepted-answers : (c : Card) (i : ℕ) (d b b₁ b₂ w : List ℕ) (k : Card) (n : ℕ) → replyRoom ≤ length b → n ≤ 256 → Shows (shown (view c) i d) b b₁ n
     → k ≡ put c (changed (view c) i d) → w ≡ word ok → b₂ ≡ laidIn b₁ n w → Answered (laidInto c (accepted (view c) i d)) b b₂ (reply k 0 (n + 2))
 unfolding laidInto accepted replyOf
 accepted-answers c i d b b₁ b₂ w k n room small s ek ew e =
@@ -113,15 +113,15 @@ module _ (c : Card) (f : List ℕ) where
   plays-accepted e = ap (laidInto c) (sym (picked _ _ (eq-eqb _ _ e)))
 
   module _ (room : ℕ) where
-    pub command-short : room < 258 → bench c 5 ≡ commanded c f room
+    pub command-short : room < replyRoom → bench c 5 ≡ commanded c f room
     unfolding commanded
     command-short h = sym (picked _ _ (lt-ltb _ _ h))
 
-    pub command-broken : 258 ≤ room → broken c ≡ true → bench c 6 ≡ commanded c f room
+    pub command-broken : replyRoom ≤ room → broken c ≡ true → bench c 6 ≡ commanded c f room
     unfolding commanded
     command-broken h b = sym (passed _ _ (le-ltb _ _ h) ∙ picked _ _ b)
 
-    pub command-plays : 258 ≤ room → broken c ≡ false → laidInto c (played (view c) f) ≡ commanded c f room
+    pub command-plays : replyRoom ≤ room → broken c ≡ false → laidInto c (played (view c) f) ≡ commanded c f room
     unfolding commanded
     command-plays h b = sym (passed _ _ (le-ltb _ _ h) ∙ passed _ _ b)
 

@@ -15,7 +15,7 @@ ghost use Rattle.effects.specs.Effects.{changed};
 ghost use Rattle.card.specs.View.{coreOf, view, put};
 ghost use Rattle.card.specs.Rules.{brokenBy, broken};
 ghost use Rattle.card.specs.Outcome.{replyOf, Answered};
-ghost use Rattle.card.specs.Events.{ended, refused, accepted, played, laidInto, commanded, sessionChanged, poweredUp, issued, blank, orderRefusal, personalised};
+ghost use Rattle.card.specs.Events.{ended, refused, accepted, played, laidInto, replyRoom, commanded, sessionChanged, poweredUp, issued, blank, orderRefusal, personalised};
 ghost use Rattle.card.specs.Order.{frameOrder, commandOrder};
 
 pub struct Card {
@@ -230,7 +230,7 @@ impl Card {
 
     // A refusal: the two status bytes.
     fn refused(self, status: u16, reply: &mut [u8]) -> Reply
-        requires { ⌜ 258 ≤ length (now reply) ⌝ }
+        requires { ⌜ replyRoom ≤ length (now reply) ⌝ }
         ensures { λ r. ⌜ Answered (laidInto self (refused (view self) status)) (now (reply .entry)) (now (reply .exit)) r ⌝ }
     {
         let card = self.ended();
@@ -245,7 +245,7 @@ impl Card {
 
     // An accepted command: its data, then 9100.
     fn accepted(self, ins: u8, d: &[u8], reply: &mut [u8]) -> Reply
-        requires { ⌜ (commandStatus (view self .core) ins (now d) ≡ ok) × (broken self ≡ false) × (258 ≤ length (now reply)) ⌝ }
+        requires { ⌜ (commandStatus (view self .core) ins (now d) ≡ ok) × (broken self ≡ false) × (replyRoom ≤ length (now reply)) ⌝ }
         ensures { λ r. ⌜ Answered (laidInto self (accepted (view self) ins (now (d .entry)))) (now (reply .entry)) (now (reply .exit)) r ⌝ }
     {
         let files = self.files;
@@ -264,7 +264,7 @@ impl Card {
 
     // Refused with the status of the first reason that applies, or accepted.
     fn judged(self, frame: &[u8], reply: &mut [u8]) -> Reply
-        requires { ⌜ (broken self ≡ false) × (258 ≤ length (now reply)) ⌝ }
+        requires { ⌜ (broken self ≡ false) × (replyRoom ≤ length (now reply)) ⌝ }
         ensures { λ r. ⌜ Answered (laidInto self (played (view self) (now (frame .entry)))) (now (reply .entry)) (now (reply .exit)) r ⌝ }
     {
         let settings = self.settings;

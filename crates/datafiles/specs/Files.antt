@@ -18,16 +18,26 @@ data04 = 0x04
 abbrev pub data1F : ℕ
 data1F = 0x1F
 
+-- and their sizes
+abbrev pub size00 : ℕ
+size00 = 256
+
+abbrev pub size04 : ℕ
+size04 = 256
+
+abbrev pub size1F : ℕ
+size1F = 32
+
 -- the room of file n: 00h, 04h, else 1Fh
 unfoldable pub sizeOf : ℕ → ℕ
-sizeOf n = pick (eqb n data00) 256 (pick (eqb n data04) 256 32)
+sizeOf n = pick (eqb n data00) size00 (pick (eqb n data04) size04 size1F)
 
 -- its bytes
 unfoldable pub bytesOf : Files → ℕ → List ℕ
 bytesOf f n = pick (eqb n data00) (f .f00) (pick (eqb n data04) (f .f04) (f .f1f))
 
 unfoldable pub zeros : Files
-zeros = record { f00 = replicate 256 0; f04 = replicate 256 0; f1f = replicate 32 0 }
+zeros = record { f00 = replicate size00 0; f04 = replicate size04 0; f1f = replicate size1F 0 }
 
 -- the place behind a read of len bytes from off on; a read of length 0 runs to the end
 unfoldable pub endOf : ℕ → ℕ → ℕ → ℕ
@@ -46,4 +56,4 @@ written f n off bytes =
 
 -- what a read lays into a buffer of this room: nothing where the range is outside the file, or the room below the largest file
 unfoldable pub shownIn : ℕ → Files → ℕ → ℕ → ℕ → List ℕ
-shownIn room f n off len = pick (ltb room 256 || outsideOf (sizeOf n) off len) [] (shown f n off len)
+shownIn room f n off len = pick (ltb room size00 || outsideOf (sizeOf n) off len) [] (shown f n off len)

@@ -80,7 +80,7 @@ impl Files {
     pub fn show(self, n: u8, off: u32, len: u32, reply: &mut [u8]) -> usize
         ensures { λ r. ⌜ Shows (shownIn (length (now (reply .entry))) self n off len) (now (reply .entry)) (now (reply .exit)) r ⌝ }
     {
-        if reply.len() < 256 {
+        if reply.len() < Files::SIZE_00 {
             return 0;
         }
         let size = Files::size(n);

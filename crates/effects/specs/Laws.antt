@@ -75,7 +75,7 @@ pub entries-view : (l : Log) → length (log.view l .entries) ≡ l .count
 unfolding log.view
 entries-view l = length-cut (l .count) (l .slots)
 
-module _ (room : ℕ) (s : State) (l : Log) (d : List ℕ) (j : s .core .journal ≡ log.view l) (k : 258 ≤ room) (b : log.broken l ≡ false) where
+module _ (room : ℕ) (s : State) (l : Log) (d : List ℕ) (j : s .core .journal ≡ log.view l) (k : 256 ≤ room) (b : log.broken l ≡ false) where
   data-shown : outsideOf (files.sizeOf (fileOf d)) (offsetOf d) (lengthOf d) ≡ false
       → files.shownIn room (s .files) (fileOf d) (offsetOf d) (lengthOf d) ≡ files.shown (s .files) (fileOf d) (offsetOf d) (lengthOf d)
   unfolding files.shownIn
