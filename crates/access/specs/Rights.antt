@@ -66,12 +66,14 @@ accessOf x s byRead byWrite always = pick (sealed x byRead byWrite) Never (pick 
 
 -- ---- what each answer says of places 8 and 9
 
+-- the status that it leads to: every condition Fh, none that grants, or a grant
+abbrev pub accessStatus : Access → ℕ
+accessStatus Never = 0x919D
+accessStatus NotGranted = 0x91AE
+accessStatus Granted = 0x9100
+
 abbrev pub isNever : Access → Bool
-isNever Never = true
-isNever NotGranted = false
-isNever Granted = false
+isNever a = eqb (accessStatus a) 0x919D
 
 abbrev pub isNotGranted : Access → Bool
-isNotGranted Never = false
-isNotGranted NotGranted = true
-isNotGranted Granted = false
+isNotGranted a = eqb (accessStatus a) 0x91AE

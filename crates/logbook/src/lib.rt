@@ -12,10 +12,10 @@ ghost use Rattle.logbook.specs.Range.{oldestFirst};
 
 pub struct Log {
     // Committed entries: the first count slots.
-    pub slots: [u8; 64],
+    pub slots: [u8; Log::SLOTS],
     pub count: u8,
     // The new entry, where one is pending; whether one is, and whether a clear is.
-    pub entry: [u8; 16],
+    pub entry: [u8; Log::ENTRY],
     pub adds: bool,
     pub clears: bool,
 }
@@ -39,6 +39,9 @@ impl Log {
     // The bytes of an entry.
     pub const ENTRY: usize = 16;
 
+    // The bytes of all slots.
+    pub const SLOTS: usize = 64;
+
     // The most entries.
     pub const MOST: u8 = 4;
 
@@ -47,9 +50,9 @@ impl Log {
         ensures { λ r. ⌜ r ≡ empty ⌝ }
     {
         Log {
-            slots: [0; 64],
+            slots: [0; Log::SLOTS],
             count: 0,
-            entry: [0; 16],
+            entry: [0; Log::ENTRY],
             adds: false,
             clears: false,
         }
@@ -70,7 +73,7 @@ impl Log {
     pub fn show(self, first: u32, count: u32, reply: &mut [u8]) -> usize
         ensures { λ r. ⌜ (now (reply .exit) ≡ laid (now (reply .entry)) 0 (shownIn (length (now (reply .entry))) self first count)) × (r ≡ length (shownIn (length (now (reply .entry))) self first count)) ⌝ }
     {
-        if reply.len() < 64 {
+        if reply.len() < Log::SLOTS {
             return 0;
         }
         if Self::MOST < self.count {
@@ -85,11 +88,11 @@ impl Log {
     }
 
     // The new entry as it stands: one of zeros, where there is none yet.
-    fn fresh(self) -> [u8; 16]
+    fn fresh(self) -> [u8; Log::ENTRY]
         ensures { λ r. ⌜ r ≡ freshOr blank (view self .fresh) ⌝ }
     {
         if !self.adds {
-            return [0; 16];
+            return [0; Log::ENTRY];
         }
         self.entry
     }
