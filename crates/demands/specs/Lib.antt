@@ -1,0 +1,12 @@
+pub mod Strike
+pub mod Books
+pub mod DataFiles
+pub mod History
+pub mod Names
+pub mod Sound
+pub mod Kept
+pub mod Steps
+pub mod Induct
+pub mod Inside
+pub mod Posting
+pub mod Opened
