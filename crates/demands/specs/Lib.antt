@@ -10,3 +10,5 @@ pub mod Induct
 pub mod Inside
 pub mod Posting
 pub mod Opened
+pub mod BooksLaw
+pub mod FilesLaw
