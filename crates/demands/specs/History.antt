@@ -17,7 +17,7 @@ use Rattle.card.specs.View.{view}
 use Rattle.card.specs.Outcome.{Outcome, replyOf}
 use Rattle.card.specs.Events.{commanded, sessionChanged, poweredUp}
 use Rattle.demands.specs.Strike.{Line, posted, closed, broken, idle}
-use Rattle.demands.specs.Books.{Op, paid-in, paid-out, rebooked, entered, cleared}
+use Rattle.demands.specs.Books.{Op, paid-in, paid-out, rebooked, entered, cleared, Books}
 use Rattle.demands.specs.DataFiles.{Write}
 
 -- a bench refusal is no part of a history: a command comes with room for its reply, a session change names a key 0 to 4 or none
@@ -85,3 +85,7 @@ lineBy acceptedLine s power = broken
 -- the lines of a history from the card c on
 unfoldable pub traced : {X : Type 0} → (ℕ → List ℕ → Line X) → Card → List Event → List (Line X)
 traced acceptedLine = along next (λ c e. lineBy acceptedLine (view c) e)
+
+-- what a state holds for good
+abbrev pub booksOf : State → Books
+booksOf s = record { value = s .core .purse .value; allowance = s .core .purse .allowance; log = s .core .journal .entries }

@@ -2,9 +2,9 @@ pub mod Strike
 pub mod Books
 pub mod DataFiles
 pub mod History
+pub mod Demands
 pub mod Names
 pub mod Sound
-pub mod Kept
 pub mod Steps
 pub mod Induct
 pub mod Inside
@@ -12,3 +12,7 @@ pub mod Posting
 pub mod Opened
 pub mod BooksLaw
 pub mod FilesLaw
+pub mod FirstRow
+pub mod Proof1
+pub mod Issued
+pub mod Proof2

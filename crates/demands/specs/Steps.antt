@@ -30,7 +30,7 @@ use Rattle.card.specs.Outcome.{Outcome}
 use Rattle.card.specs.Events.{Played, ended, refused, accepted, played, laidInto, withSession, sessionChanged, poweredUp}
 use Rattle.card.specs.Laws.{pending-view, log-unbroken, command-plays}
 use Rattle.demands.specs.History.{Event, command, session, power, outcome, next, Said, said, run, along}
-use Rattle.demands.specs.Kept.{Kept}
+use Rattle.demands.specs.Demands.{Kept}
 use Rattle.demands.specs.Sound.{Sound, Sized, changed-sound, ended-sound, session-sound}
 
 -- ---- a card that keeps the rules stands for a sound state
