@@ -16,3 +16,5 @@ pub mod FirstRow
 pub mod Proof1
 pub mod Issued
 pub mod Proof2
+pub mod Proof3
+pub mod ProofInCode
