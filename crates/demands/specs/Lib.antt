@@ -3,6 +3,7 @@ pub mod Books
 pub mod DataFiles
 pub mod History
 pub mod Demands
+pub mod Examples
 pub mod Names
 pub mod Sound
 pub mod Steps

@@ -6,7 +6,7 @@ use mathlib.Core.Path.{_≡_, refl, sym, _∙_, ap, subst}
 use native.Mathlib.Omega.{arith}
 use borrow.Author.Tests.{eq-eqb}
 use lib.IntN.{ℤ}
-use lib.ListN.{length, take, drop}
+use lib.ListN.{length, take, drop, replicate}
 use lib.Seq.{take-at}
 use Rattle.tables.specs.Choice.{picked, not-yes}
 use Rattle.wire.specs.Bytes.{laid}
@@ -113,3 +113,28 @@ in-code s v r es ss d q z ran =
     let f = ran-follows ran (subst (λ (k : Card). Kept k) (sym e) (issued-kept s v t)) in
     let g = follows-from (issued s v) (r .card) es ss d e f in
     record { taken = t; card = g .0; replies = g .1 }
+
+-- ---- every history has a run, so the theorem speaks of all of them
+
+session-silent : (c : Card) → Kept c → (k : Session) (known : sessionSound k ≡ true) → seen (replyOf (sessionChanged c k)) [] ≡ said c (session k known)
+unfolding said replyOf outcome
+session-silent c h k known = seen-answered (sessionChanged c k) [] [] _ (session-answers c h k known _ refl)
+
+power-silent : (c : Card) → Kept c → seen (replyOf (poweredUp c)) [] ≡ said c power
+unfolding said replyOf outcome
+power-silent c h = seen-answered (poweredUp c) [] [] _ (power-answers c h _ refl)
+
+command-seen : (c : Card) (f before : List ℕ) → seen (replyOf (commanded c f 258)) (laid before 0 (commanded c f 258 .out)) ≡ said c (command f)
+unfolding said replyOf outcome
+command-seen c f before = seen-answered (commanded c f 258) before _ _ (refl, refl)
+
+-- what was seen, in the words of said
+seen-as : (c d : Card) (e : Event) (es : List Event) (x y : Said) (ss : List Said) → x ≡ y → Ran c (e ∷ es) (x ∷ ss) d → Ran c (e ∷ es) (y ∷ ss) d
+seen-as c d e es x y ss q h = subst (λ (z : Said). Ran c (e ∷ es) (z ∷ ss) d) q h
+
+pub runs : (c : Card) → Kept c → (es : List Event) → Ran c es (along next said c es) (run next c es)
+unfolding run along outcome replyOf
+runs c h [] = done
+runs c h (command f ∷ es) = seen-as c _ _ es _ _ _ (command-seen c f (replicate 258 0)) (commands f (replicate 258 0) _ (replyOf (commanded c f 258)) (omega arith) (refl, refl) (runs (next c (command f)) (next-kept c h (command f)) es))
+runs c h (session k known ∷ es) = seen-as c _ _ es _ _ _ (session-silent c h k known) (changes k known (replyOf (sessionChanged c k)) refl (runs (next c (session k known)) (next-kept c h (session k known)) es))
+runs c h (power ∷ es) = seen-as c _ _ es _ _ _ (power-silent c h) (powers (replyOf (poweredUp c)) refl (runs (next c power) (next-kept c h power) es))
