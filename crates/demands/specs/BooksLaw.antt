@@ -1,23 +1,22 @@
 -- A card's value, allowance and log are the books over the struck history.
 use Prim.Native.Nat.{ℕ}
 use mathlib.Core.Bool.{Bool, true, false}
-use mathlib.Core.List.{List, [], _∷_}
-use mathlib.Core.Path.{_≡_, refl, sym, _∙_, ap}
+use mathlib.Core.List.{List, []}
+use mathlib.Core.Path.{_≡_, refl, _∙_, ap}
 use borrow.Author.Tests.{eqb-true}
 use lib.Dec.{eqb}
 use lib.IntN.{ℤ}
 use Rattle.tables.specs.Choice.{pick}
 use Rattle.purse.specs.Purse as purse
 use Rattle.logbook.specs.Journal as journal
-use Rattle.access.specs.declared.Session.{Session}
 use Rattle.frames.specs.Frame.{insOf, dataOf}
 use Rattle.commands.specs.Table.{commitTransaction}
 use Rattle.commands.specs.State.{State}
 use Rattle.commands.specs.Rows.{ok, statusOf, commandStatus}
 use Rattle.commands.specs.Laws.{command-ok}
 use Rattle.effects.specs.Effects.{purseAfter, journalAfter, changed}
-use Rattle.card.specs.Events.{Played, ended, refused, accepted, played, withSession}
-use Rattle.demands.specs.Strike.{Line, broken, idle, strike, part, through}
+use Rattle.card.specs.Events.{ended, refused, accepted, played, withSession}
+use Rattle.demands.specs.Strike.{Line, broken, strike, part, through}
 use Rattle.demands.specs.Books.{Op, valueAfter, Books, booked}
 use Rattle.demands.specs.History.{Event, command, session, power, run, along, bookLine, lineBy, booksOf}
 use Rattle.demands.specs.Names.{Other, by-name, purse-other, journal-other, book-other}

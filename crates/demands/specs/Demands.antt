@@ -1,4 +1,4 @@
--- The three demands, stated: each field is a sentence. The theorems demand1, demand2, demand3 and in-code say that they hold.
+-- The three demands, stated: each field is a sentence. The theorems demand1, demand2, standing, demand3, equal-replies and in-code prove them.
 use Prim.Native.Nat.{ℕ, _+_, _≤_, _<_}
 use mathlib.Core.Bool.{Bool, true, false, _||_}
 use mathlib.Core.List.{List, [], _∷_, _++_}
@@ -21,8 +21,8 @@ use Rattle.card.specs.declared.Reply.{Reply}
 use Rattle.card.specs.View.{view}
 use Rattle.card.specs.Rules.{broken}
 use Rattle.card.specs.Outcome.{replyOf, Answered}
-use Rattle.card.specs.Events.{refused, accepted, laidInto, commanded, sessionChanged, poweredUp, issued, orderRefusal, personalised}
-use Rattle.demands.specs.Books.{Books, booked}
+use Rattle.card.specs.Events.{refused, accepted, laidInto, commanded, sessionChanged, poweredUp, issued, orderRefusal}
+use Rattle.demands.specs.Books.{booked}
 use Rattle.demands.specs.DataFiles.{filed}
 use Rattle.demands.specs.History.{Event, command, session, power, outcome, next, Said, said, run, along, bookLine, fileLine, traced, booksOf}
 
@@ -69,11 +69,10 @@ pub record Replied (c : Card) (before after : List ℕ) (r : Reply) : Type 0 whe
   pub refusal : r .refusal ≡ 0
   pub refused : (status ≡ ok → ⊥) → (shown ≡ []) × Untouched c (r .card)
 
-pub record Demand1 : Type 0 where
-  pub replied : (c : Card) (f before after : List ℕ) (r : Reply) → Answered (commanded c f (length before)) before after r
-      → Kept c → 258 ≤ length before → Replied c before after r
-  pub short : (c : Card) (f before after : List ℕ) (r : Reply) → Answered (commanded c f (length before)) before after r
-      → length before < 258 → (r .card ≡ c) × (after ≡ before)
+-- the method `command`, as its contract says, left this buffer and returned r
+pub record Demand1 (c : Card) (before after : List ℕ) (r : Reply) : Type 0 where
+  pub replied : Kept c → 258 ≤ length before → Replied c before after r
+  pub short : length before < 258 → (r .card ≡ c) × (after ≡ before)
 
 -- ---- demand 2: refused exactly when a row of the table applies, by the first such row
 
@@ -96,35 +95,41 @@ Accepts c f = (room : ℕ) → 258 ≤ room → commanded c f room ≡ laidInto 
 abbrev pub Refuses : Card → List ℕ → ℕ → Type 0
 Refuses c f status = (room : ℕ) → 258 ≤ room → commanded c f room ≡ laidInto c (refused (view c) status)
 
--- bench refusals 1 to 3 are not given
+pub record Demand2 (c : Card) (f : List ℕ) : Type 0 where
+  pub accepted : (statusOf (view c .core) f ≡ ok) ↔ NoReason (rowsFor c f)
+  pub refused : (status : ℕ) → ((statusOf (view c .core) f ≡ status) × (status ≡ ok → ⊥)) ↔ FirstRow (rowsFor c f) status
+  pub accepts : Kept c → NoReason (rowsFor c f) → Accepts c f
+  pub refuses : (status : ℕ) → Kept c → FirstRow (rowsFor c f) status → Refuses c f status
+  -- one answer alone fits the contract
+  pub one : (before after after′ : List ℕ) (r r′ : Reply) → Answered (commanded c f (length before)) before after r
+      → Answered (commanded c f (length before)) before after′ r′ → (r ≡ r′) × (after ≡ after′)
+
+-- an accepted personalisation: bench refusals 1 to 3 are not given
 abbrev pub Taken : Settings → ℤ → Type 0
 Taken s v = orderRefusal s v ≡ 0
 
--- the card of that personalisation after a history
+-- its card after a history
 abbrev pub reached : Settings → ℤ → List Event → Card
 reached s v es = run next (issued s v) es
 
-pub record Demand2 : Type 0 where
-  pub accepted : (c : Card) (f : List ℕ) → (statusOf (view c .core) f ≡ ok) ↔ NoReason (rowsFor c f)
-  pub refused : (c : Card) (f : List ℕ) (status : ℕ) → ((statusOf (view c .core) f ≡ status) × (status ≡ ok → ⊥)) ↔ FirstRow (rowsFor c f) status
-  pub accepts : (c : Card) (f : List ℕ) → Kept c → NoReason (rowsFor c f) → Accepts c f
-  pub refuses : (c : Card) (f : List ℕ) (status : ℕ) → Kept c → FirstRow (rowsFor c f) status → Refuses c f status
-  pub keeps : (s : Settings) (v : ℤ) → Taken s v → (es : List Event) → Kept (reached s v es)
-  pub no-six : (s : Settings) (v : ℤ) → Taken s v → (es : List Event) (e : Event) → outcome (reached s v es) e .refusal ≡ 0
-  pub one : (c : Card) (f before after after′ : List ℕ) (r r′ : Reply) → Answered (commanded c f (length before)) before after r
-      → Answered (commanded c f (length before)) before after′ r′ → (r ≡ r′) × (after ≡ after′)
+-- every reached card keeps the standing rules, so no event meets bench refusal 6, or any other
+pub record Standing (s : Settings) (v : ℤ) (es : List Event) : Type 0 where
+  pub keeps : Kept (reached s v es)
+  pub never : (e : Event) → outcome (reached s v es) e .refusal ≡ 0
 
 -- ---- demand 3: value, allowance and log are the books over the struck history
 
-pub record Demand3 : Type 0 where
-  pub books : (s : Settings) (v : ℤ) → Taken s v → (es : List Event) → booksOf (view (reached s v es)) ≡ booked v (traced bookLine (issued s v) es)
-  pub files : (s : Settings) (v : ℤ) → Taken s v → (es : List Event) → reached s v es .files ≡ filed (traced fileLine (issued s v) es)
-  pub settings : (s : Settings) (v : ℤ) → Taken s v → (es : List Event) → reached s v es .settings ≡ s
-  pub value-inside : (s : Settings) (v : ℤ) → Taken s v → (es : List Event) → within (s .limits) (reached s v es .purse .value) ≡ true
-  pub pending-inside : (s : Settings) (v : ℤ) → Taken s v → (es : List Event) → within (s .limits) (reached s v es .purse .pending) ≡ true
-  -- two cards of equal settings, data files and books, each just powered up, whatever else lies in them
-  pub alike : (c d : Card) → Kept c → Kept d → c .settings ≡ d .settings → c .files ≡ d .files → booksOf (view c) ≡ booksOf (view d)
-      → (es : List Event) → along next said (next c power) es ≡ along next said (next d power) es
+pub record Demand3 (s : Settings) (v : ℤ) (es : List Event) : Type 0 where
+  pub books : booksOf (view (reached s v es)) ≡ booked v (traced bookLine (issued s v) es)
+  pub files : reached s v es .files ≡ filed (traced fileLine (issued s v) es)
+  pub settings : reached s v es .settings ≡ s
+  pub value-inside : within (s .limits) (reached s v es .purse .value) ≡ true
+  pub pending-inside : within (s .limits) (reached s v es .purse .pending) ≡ true
+
+-- two cards of equal settings, data files and books, each just powered up, whatever else lies in them
+abbrev pub EqualReplies : Type 0
+EqualReplies = (c d : Card) → Kept c → Kept d → c .settings ≡ d .settings → c .files ≡ d .files → booksOf (view c) ≡ booksOf (view d)
+    → (es : List Event) → along next said (next c power) es ≡ along next said (next d power) es
 
 -- ---- the code: runs of the methods, each call as its contract says
 

@@ -52,10 +52,10 @@ unfolding replies followed strike posts part through sum some valueAfter allowan
 books es = booked (pos 100) (traced bookLine (events.issued program (pos 100)) es)
 
 -- the INS i without a data field, and with the data field d
-abbrev bare : ℕ → Event
+abbrev pub bare : ℕ → Event
 bare i = command (0x90 ∷ i ∷ 0 ∷ 0 ∷ 0 ∷ [])
 
-abbrev sends : ℕ → List ℕ → Event
+abbrev pub sends : ℕ → List ℕ → Event
 sends i d = command (0x90 ∷ i ∷ 0 ∷ 0 ∷ length d ∷ d ++ (0 ∷ []))
 
 abbrev says : List ℕ → Said
@@ -89,14 +89,14 @@ pub listing : replies
     ∷ sends 0x6C (3 ∷ [])
     ∷ [])
     ≡ says (0x64 ∷ 0 ∷ 0 ∷ 0 ∷ 0x91 ∷ 0x00 ∷ [])
-      ∷ says (0x91 ∷ 0x00 ∷ [])
-      ∷ says (0x64 ∷ 0 ∷ 0 ∷ 0 ∷ 0x91 ∷ 0x00 ∷ [])
-      ∷ says (0x91 ∷ 0x00 ∷ [])
-      ∷ says (0x46 ∷ 0 ∷ 0 ∷ 0 ∷ 0x91 ∷ 0x00 ∷ [])
-      ∷ says (0x91 ∷ 0xBE ∷ [])
-      ∷ says []
-      ∷ says (0x46 ∷ 0 ∷ 0 ∷ 0 ∷ 0x91 ∷ 0x00 ∷ [])
-      ∷ []
+    ∷ says (0x91 ∷ 0x00 ∷ [])
+    ∷ says (0x64 ∷ 0 ∷ 0 ∷ 0 ∷ 0x91 ∷ 0x00 ∷ [])
+    ∷ says (0x91 ∷ 0x00 ∷ [])
+    ∷ says (0x46 ∷ 0 ∷ 0 ∷ 0 ∷ 0x91 ∷ 0x00 ∷ [])
+    ∷ says (0x91 ∷ 0xBE ∷ [])
+    ∷ says []
+    ∷ says (0x46 ∷ 0 ∷ 0 ∷ 0 ∷ 0x91 ∷ 0x00 ∷ [])
+    ∷ []
 unfolding replies
 listing = refl
 

@@ -7,8 +7,7 @@ use native.Mathlib.Omega.{arith}
 use borrow.Author.Tests.{eqb-true}
 use lib.Dec.{eqb}
 use lib.ListN.{length}
-use Rattle.tables.specs.Choice.{pick, passed}
-use Rattle.wire.specs.Bytes.{laid, laidIn}
+use Rattle.tables.specs.Choice.{pick}
 use Rattle.wire.specs.Laws.{laid-room}
 use Rattle.datafiles.specs.declared.Files.{Files}
 use Rattle.datafiles.specs.Files as files

@@ -12,7 +12,6 @@ use Rattle.commands.specs.Table.{writeData, credit, debit, limitedCredit, write
 use Rattle.commands.specs.State.{State}
 use Rattle.commands.specs.Rows.{ok, statusOf}
 use Rattle.card.specs.declared.Card.{Card}
-use Rattle.card.specs.declared.Reply.{Reply}
 use Rattle.card.specs.View.{view}
 use Rattle.card.specs.Outcome.{Outcome, replyOf}
 use Rattle.card.specs.Events.{commanded, sessionChanged, poweredUp}

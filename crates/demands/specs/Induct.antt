@@ -1,7 +1,7 @@
 -- The one induction of demand 3, for any machine and operations of any kind.
 use mathlib.Core.Bool.{Bool, true, false}
-use mathlib.Core.List.{List, [], _∷_, _++_, append-assoc, append-nil}
-use mathlib.Core.Path.{_≡_, refl, sym, _∙_, ap}
+use mathlib.Core.List.{List, [], _∷_, _++_, append-assoc}
+use mathlib.Core.Path.{_≡_, refl, _∙_, ap}
 use Rattle.tables.specs.Choice.{pick}
 use Rattle.demands.specs.Strike.{Line, posted, closed, broken, idle, followed, strike, posts, part, through}
 use Rattle.demands.specs.History.{run, along}

@@ -1,11 +1,11 @@
 -- An accepted write has room: in the new entry, or in its data file.
 use Prim.Native.Nat.{ℕ, _+_, _≤_}
-use mathlib.Core.Bool.{Bool, true, false, not, _&&_, _||_}
-use mathlib.Core.List.{List, [], _∷_}
-use mathlib.Core.Path.{_≡_, refl, sym, _∙_, subst}
+use mathlib.Core.Bool.{Bool, true, false, not, _||_}
+use mathlib.Core.List.{List}
+use mathlib.Core.Path.{_≡_, refl}
 use native.Mathlib.Omega.{arith}
-use borrow.Author.Tests.{not-false, eqb-true, ltb-false, leb-false}
-use lib.Dec.{eqb, ltb, leb}
+use borrow.Author.Tests.{not-false, eqb-true, ltb-false}
+use lib.Dec.{eqb, leb}
 use lib.ListN.{length}
 use Rattle.tables.specs.Choice.{or-no, none}
 use Rattle.wire.specs.Bytes.{outsideOf}

@@ -1,12 +1,11 @@
 -- The card of an accepted personalisation: it keeps the rules, nothing is pending, and its books hold the starting value alone.
-use Prim.Native.Nat.{ℕ}
 use mathlib.Core.Bool.{false, not}
 use mathlib.Core.List.{List, [], _∷_}
 use mathlib.Core.Path.{_≡_, refl}
 use native.Mathlib.Omega.{arith}
 use borrow.Author.Tests.{not-false}
 use lib.IntN.{ℤ}
-use Rattle.tables.specs.Reasons.{Reason, _when_, NoReason, no-reason}
+use Rattle.tables.specs.Reasons.{Reason, _when_, no-reason}
 use Rattle.datafiles.specs.Files as files
 use Rattle.purse.specs.Purse as purse
 use Rattle.purse.specs.Laws as purse-laws

@@ -19,3 +19,4 @@ pub mod Issued
 pub mod Proof2
 pub mod Proof3
 pub mod ProofInCode
+pub mod Unseen

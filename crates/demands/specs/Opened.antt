@@ -2,13 +2,11 @@
 use Prim.Native.Nat.{ℕ, _+_, _-_, _≤_, min}
 use mathlib.Core.Bool.{Bool, true, false}
 use mathlib.Core.List.{List, [], _∷_, _++_}
-use mathlib.Core.Path.{_≡_, refl, sym, _∙_, ap}
+use mathlib.Core.Path.{_≡_, refl, _∙_}
 use native.Mathlib.Omega.{arith}
-use borrow.Author.Tests.{eqb-true}
-use lib.Dec.{eqb}
 use lib.IntN.{ℤ}
 use lib.ListN.{length, take, replicate}
-use Rattle.tables.specs.Choice.{pick, pick-cases}
+use Rattle.tables.specs.Choice.{pick}
 use Rattle.wire.specs.Bytes.{laid, laidIn}
 use Rattle.wire.specs.Laws.{laid-room}
 use Rattle.purse.specs.declared.Purse.{Purse}
@@ -17,8 +15,8 @@ use Rattle.logbook.specs.Journal.{Journal}
 use Rattle.logbook.specs.Journal as journal
 use Rattle.logbook.specs.View as log
 use Rattle.logbook.specs.Fit.{Fit, Sixteens}
-use Rattle.demands.specs.Books.{Op, paid-in, paid-out, rebooked, entered, cleared, outflow, inflow, taken, isDebit, isEntry, isClear, sum, some, valueAfter, allowanceAfter, overwritten, Books}
-use Rattle.demands.specs.Posting.{one-more, has-clear, plus, minus, value-none, logAfter, balance}
+use Rattle.demands.specs.Books.{Op, paid-in, paid-out, rebooked, entered, cleared, outflow, inflow, taken, isDebit, isEntry, isClear, sum, some, valueAfter, allowanceAfter, overwritten}
+use Rattle.demands.specs.Posting.{one-more, has-clear, plus, minus, value-none, logAfter}
 
 -- ---- the value file
 

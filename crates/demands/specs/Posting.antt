@@ -1,5 +1,5 @@
 -- One operation more: what it does to the books of an open transaction.
-use Prim.Native.Nat.{ℕ, _+_, _-_, min}
+use Prim.Native.Nat.{ℕ, _+_}
 use mathlib.Core.Bool.{Bool, true, false, _||_, or-false, or-true, or-assoc, true≢false}
 use mathlib.Core.List.{List, [], _∷_, _++_}
 use mathlib.Core.Path.{_≡_, refl, sym, _∙_, ap}
@@ -10,7 +10,7 @@ use lib.ListN.{take, replicate}
 use lib.Seq.{take-take}
 use Rattle.tables.specs.Choice.{pick}
 use Rattle.wire.specs.Bytes.{laid}
-use Rattle.demands.specs.Books.{Op, paid-in, paid-out, rebooked, entered, cleared, inflow, outflow, taken, isDebit, isEntry, isClear, sum, some, valueAfter, allowanceAfter, overwritten, entriesAfter, Books}
+use Rattle.demands.specs.Books.{Op, paid-in, paid-out, rebooked, entered, cleared, inflow, outflow, isEntry, isClear, sum, some, valueAfter, allowanceAfter, overwritten, entriesAfter, Books}
 use Rattle.demands.specs.Strike.{through}
 use Rattle.demands.specs.Induct.{flat}
 

@@ -1,14 +1,14 @@
 -- Demand 1, proved.
 use Prim.Native.Nat.{ℕ, _+_, _≤_, _<_}
 use mathlib.Core.Bool.{Bool, true, false}
-use mathlib.Core.List.{List, [], _∷_, _++_}
+use mathlib.Core.List.{List, []}
 use mathlib.Core.Path.{_≡_, refl, sym, _∙_, ap, subst}
 use native.Mathlib.Omega.{arith}
 use borrow.Author.Tests.{eqb-true}
 use lib.Dec.{eqb}
 use lib.ListN.{length, length-append}
 use Rattle.tables.specs.Choice.{pick}
-use Rattle.wire.specs.Bytes.{laid, word}
+use Rattle.wire.specs.Bytes.{word}
 use Rattle.wire.specs.Laws.{length-word, laid-none}
 use Rattle.purse.specs.Purse as purse
 use Rattle.logbook.specs.Journal as journal
@@ -21,7 +21,7 @@ use Rattle.effects.specs.Laws.{shown-small}
 use Rattle.card.specs.declared.Card.{Card}
 use Rattle.card.specs.declared.Reply.{Reply}
 use Rattle.card.specs.View.{view, put}
-use Rattle.card.specs.Outcome.{Outcome, replyOf, Answered, bench}
+use Rattle.card.specs.Outcome.{replyOf, Answered, bench}
 use Rattle.card.specs.Events.{ended, refused, accepted, played, laidInto, commanded}
 use Rattle.card.specs.Laws.{answered-as, command-plays, command-short}
 use Rattle.demands.specs.History.{booksOf}
@@ -102,5 +102,5 @@ module _ (c : Card) (f before after : List ℕ) (r : Reply) where
       let b = answered-as _ _ before after r (sym (command-short c f (length before) less)) a in
       (ap (λ (y : Reply). y .card) (b .0), b .1 ∙ sym (laid-none before))
 
-pub demand1 : Demand1
-demand1 = record { replied = λ c f before after r a h room. replied c f before after r h a room; short = short }
+pub demand1 : (c : Card) (f before after : List ℕ) (r : Reply) → Answered (commanded c f (length before)) before after r → Demand1 c before after r
+demand1 c f before after r a = record { replied = λ h. replied c f before after r h a; short = short c f before after r a }

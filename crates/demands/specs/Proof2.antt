@@ -1,21 +1,20 @@
 -- Demand 2, proved.
-use Prim.Native.Nat.{ℕ, _≤_}
+use Prim.Native.Nat.{ℕ}
 use mathlib.Core.List.{List}
 use mathlib.Core.Logic.{_↔_}
 use mathlib.Core.Path.{_≡_, refl, sym, _∙_, ap}
 use lib.IntN.{ℤ}
 use Rattle.tables.specs.Reasons.{NoReason}
-use Rattle.frames.specs.Frame.{insOf, dataOf}
 use Rattle.commands.specs.declared.Settings.{Settings}
 use Rattle.commands.specs.Rows.{rowsOf, ok, statusOf}
 use Rattle.commands.specs.Laws.{clear}
 use Rattle.card.specs.declared.Card.{Card}
 use Rattle.card.specs.View.{view}
 use Rattle.card.specs.Outcome.{Outcome, answered-one}
-use Rattle.card.specs.Events.{laidInto, commanded, issued}
+use Rattle.card.specs.Events.{laidInto, issued}
 use Rattle.card.specs.Laws.{command-plays, plays-accepted, plays-refused}
-use Rattle.demands.specs.History.{Event, outcome}
-use Rattle.demands.specs.Demands.{Kept, rowsFor, FirstRow, Accepts, Refuses, Taken, reached, Demand2}
+use Rattle.demands.specs.History.{Event}
+use Rattle.demands.specs.Demands.{Kept, rowsFor, FirstRow, Accepts, Refuses, Demand2, Taken, reached, Standing}
 use Rattle.demands.specs.FirstRow.{none-first, first-found, found-first}
 use Rattle.demands.specs.Steps.{run-kept, outcome-plays}
 use Rattle.demands.specs.Issued.{issued-kept}
@@ -37,21 +36,18 @@ module _ (c : Card) (f : List ℕ) where
       let s = refused status .1 first in
       sym (command-plays c f room k (h .rules)) ∙ sym (plays-refused c f status (sym (s .0)) (s .1))
 
-keeps : (s : Settings) (v : ℤ) → Taken s v → (es : List Event) → Kept (reached s v es)
-keeps s v e es = run-kept (issued s v) (issued-kept s v e) es
-
-no-six : (s : Settings) (v : ℤ) → Taken s v → (es : List Event) (e : Event) → outcome (reached s v es) e .refusal ≡ 0
-unfolding laidInto
-no-six s v t es e = ap (λ (o : Outcome). o .refusal) (outcome-plays (reached s v es) (keeps s v t es) e)
-
-pub demand2 : Demand2
-demand2 =
+pub demand2 : (c : Card) (f : List ℕ) → Demand2 c f
+demand2 c f =
     record {
-      accepted = accepted;
-      refused = refused;
-      accepts = accepts;
-      refuses = refuses;
-      keeps = keeps;
-      no-six = no-six;
-      one = λ c f before after after′ r r′. answered-one _ before after after′ r r′;
+      accepted = accepted c f;
+      refused = refused c f;
+      accepts = accepts c f;
+      refuses = refuses c f;
+      one = λ before after after′ r r′. answered-one _ before after after′ r r′;
     }
+
+pub standing : (s : Settings) (v : ℤ) → Taken s v → (es : List Event) → Standing s v es
+unfolding laidInto
+standing s v t es =
+    let h = run-kept (issued s v) (issued-kept s v t) es in
+    record { keeps = h; never = λ e. ap (λ (o : Outcome). o .refusal) (outcome-plays (reached s v es) h e) }

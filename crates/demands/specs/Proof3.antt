@@ -1,13 +1,11 @@
 -- Demand 3, proved.
 use Prim.Native.Nat.{ℕ}
-use mathlib.Core.Bool.{Bool, true, false}
 use mathlib.Core.List.{List, [], _∷_}
 use mathlib.Core.Path.{_≡_, refl, sym, _∙_, ap, subst}
 use lib.Dec.{eqb}
 use lib.IntN.{ℤ}
 use lib.ListN.{length}
-use Rattle.tables.specs.Choice.{pick, pick-both}
-use Rattle.datafiles.specs.declared.Files.{Files}
+use Rattle.tables.specs.Choice.{pick-both}
 use Rattle.datafiles.specs.Files.{zeros}
 use Rattle.purse.specs.Purse as purse
 use Rattle.purse.specs.Laws as purse-laws
@@ -22,10 +20,10 @@ use Rattle.card.specs.View.{view}
 use Rattle.card.specs.Outcome.{Outcome, replyOf}
 use Rattle.card.specs.Events.{Played, ended, refused, accepted, played, laidInto, withSession, issued}
 use Rattle.demands.specs.Strike.{Line, posts, through}
-use Rattle.demands.specs.Books.{Books, booked}
+use Rattle.demands.specs.Books.{booked}
 use Rattle.demands.specs.DataFiles.{Write, filed, stored}
-use Rattle.demands.specs.History.{Event, command, session, power, outcome, next, Said, said, run, along, bookLine, fileLine, lineBy, traced, booksOf}
-use Rattle.demands.specs.Demands.{Kept, Taken, reached, Demand3}
+use Rattle.demands.specs.History.{Event, command, session, power, next, Said, said, run, along, bookLine, fileLine, lineBy, traced, booksOf}
+use Rattle.demands.specs.Demands.{Kept, Taken, reached, Demand3, EqualReplies}
 use Rattle.demands.specs.Steps.{sound-view, plays, moves, outcome-plays, next-kept, view-next, run-kept, view-run, along-views}
 use Rattle.demands.specs.BooksLaw.{books-law}
 use Rattle.demands.specs.FilesLaw.{files-law}
@@ -81,11 +79,8 @@ module _ (s : Settings) (v : ℤ) (t : Taken s v) (es : List Event) where
       let c = reached s v es in
       subst (λ (x : Settings). purse-laws.Sound (x .limits) (c .purse) (logPending (view c .core .journal))) settings (sound-view c (run-kept (issued s v) (issued-kept s v t) es) .figures)
 
-  value-inside : purse.within (s .limits) (reached s v es .purse .value) ≡ true
-  value-inside = figures .value
-
-  pending-inside : purse.within (s .limits) (reached s v es .purse .pending) ≡ true
-  pending-inside = figures .pending
+pub demand3 : (s : Settings) (v : ℤ) → Taken s v → (es : List Event) → Demand3 s v es
+demand3 s v t es = record { books = books s v t es; files = files s v t es; settings = settings s v t es; value-inside = figures s v t es .value; pending-inside = figures s v t es .pending }
 
 -- ---- equal replies
 
@@ -110,5 +105,5 @@ module _ (c d : Card) (h : Kept c) (k : Kept d) (s : c .settings ≡ d .settings
       ∙ ap (λ (x : State). along moves saidOn x es) (view-next c h power ∙ ended-alike ∙ sym (view-next d k power))
       ∙ sym (along-views said saidOn said-view (next d power) (next-kept d k power) es)
 
-pub demand3 : Demand3
-demand3 = record { books = books; files = files; settings = settings; value-inside = value-inside; pending-inside = pending-inside; alike = alike }
+pub equal-replies : EqualReplies
+equal-replies = alike

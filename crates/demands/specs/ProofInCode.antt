@@ -1,7 +1,7 @@
 -- What the methods return along a run is what the definitions say.
 use Prim.Native.Nat.{ℕ, _+_, _≤_, _<_}
 use mathlib.Core.Bool.{true, false}
-use mathlib.Core.List.{List, [], _∷_, _++_}
+use mathlib.Core.List.{List, [], _∷_}
 use mathlib.Core.Path.{_≡_, refl, sym, _∙_, ap, subst}
 use native.Mathlib.Omega.{arith}
 use borrow.Author.Tests.{eq-eqb}
@@ -20,7 +20,7 @@ use Rattle.card.specs.Outcome.{Outcome, replyOf, Answered, bench}
 use Rattle.card.specs.Events.{laidInto, commanded, sessionChanged, poweredUp, issued, personalised}
 use Rattle.card.specs.Laws.{answered-as, command-plays, command-short, session-unknown}
 use Rattle.demands.specs.History.{Event, command, session, power, outcome, next, Said, said, run, along}
-use Rattle.demands.specs.Demands.{Kept, Taken, reached, seen, Ran, done, commands, changes, powers, short, unknown, InCode}
+use Rattle.demands.specs.Demands.{Kept, Taken, seen, Ran, done, commands, changes, powers, short, unknown, InCode}
 use Rattle.demands.specs.Steps.{plays, outcome-plays, next-kept}
 use Rattle.demands.specs.Issued.{issued-kept}
 

@@ -1,14 +1,12 @@
 -- The standing rules of a state, with the sizes of its files and entries, and that every step keeps them.
-use Prim.Native.Nat.{ℕ, _+_, _≤_}
-use mathlib.Core.Bool.{Bool, true, false, not, _&&_, _||_, or-true}
-use mathlib.Core.List.{List, [], _∷_}
-use mathlib.Core.Path.{_≡_, refl, sym, _∙_, ap}
-use native.Mathlib.Omega.{arith}
+use Prim.Native.Nat.{ℕ, _+_}
+use mathlib.Core.Bool.{Bool, true, false, _&&_, or-true}
+use mathlib.Core.List.{List}
+use mathlib.Core.Path.{_≡_, refl, _∙_}
 use borrow.Author.Tests.{not-false, leb-true}
-use lib.Dec.{eqb, leb}
+use lib.Dec.{leb}
 use lib.ListN.{length}
-use Rattle.tables.specs.Choice.{pick, pick-both, pick-cases, or-no, none, passed}
-use Rattle.tables.specs.Reasons.{NoReason}
+use Rattle.tables.specs.Choice.{pick, pick-both, pick-cases}
 use Rattle.wire.specs.Bytes.{laid, laidIn}
 use Rattle.wire.specs.Laws.{length-laid}
 use Rattle.datafiles.specs.declared.Files.{Files}

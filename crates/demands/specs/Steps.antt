@@ -1,25 +1,21 @@
 -- The same history on cards and on the states that they stand for.
-use Prim.Native.Nat.{ℕ, _+_, _≤_}
-use mathlib.Core.Bool.{Bool, true, false, not, _&&_, _||_}
+use Prim.Native.Nat.{ℕ}
+use mathlib.Core.Bool.{Bool, true, false}
 use mathlib.Core.List.{List, [], _∷_}
 use mathlib.Core.Path.{_≡_, refl, sym, _∙_, ap}
 use native.Mathlib.Omega.{arith}
 use borrow.Author.Tests.{not-false, le-ltb, eqb-true}
 use lib.Dec.{eqb, ltb}
-use lib.IntN.{ℤ}
 use lib.ListN.{length}
 use Rattle.tables.specs.Choice.{pick, pick-cases, passed, none, not-no, or-no, or-none}
-use Rattle.wire.specs.Bytes.{laid}
 use Rattle.wire.specs.Laws.{length-laid}
 use Rattle.purse.specs.Laws as purse-laws
 use Rattle.logbook.specs.declared.Log.{Log}
 use Rattle.logbook.specs.Journal.{Journal, joined, freshOr}
 use Rattle.logbook.specs.View as log
 use Rattle.logbook.specs.Laws as logbook
-use Rattle.logbook.specs.Fit.{Fit, Sixteens}
+use Rattle.logbook.specs.Fit.{Sixteens}
 use Rattle.logbook.specs.FitLaws.{fit-view, joined-room}
-use Rattle.access.specs.Rights.{sessionSound}
-use Rattle.frames.specs.Frame.{insOf, dataOf}
 use Rattle.commands.specs.State.{State, logPending}
 use Rattle.commands.specs.Rows.{ok, statusOf}
 use Rattle.commands.specs.Laws.{command-ok}
@@ -28,10 +24,10 @@ use Rattle.card.specs.View.{view, put}
 use Rattle.card.specs.Rules.{rules, brokenBy, broken}
 use Rattle.card.specs.Outcome.{Outcome}
 use Rattle.card.specs.Events.{Played, ended, refused, accepted, played, laidInto, withSession, sessionChanged, poweredUp}
-use Rattle.card.specs.Laws.{pending-view, log-unbroken, command-plays}
-use Rattle.demands.specs.History.{Event, command, session, power, outcome, next, Said, said, run, along}
+use Rattle.card.specs.Laws.{pending-view, command-plays}
+use Rattle.demands.specs.History.{Event, command, session, power, outcome, next, run, along}
 use Rattle.demands.specs.Demands.{Kept}
-use Rattle.demands.specs.Sound.{Sound, Sized, changed-sound, ended-sound, session-sound}
+use Rattle.demands.specs.Sound.{Sound, changed-sound, ended-sound, session-sound}
 
 -- ---- a card that keeps the rules stands for a sound state
 
