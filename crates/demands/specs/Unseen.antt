@@ -9,9 +9,9 @@ use Rattle.card.specs.Events.{issued}
 use Rattle.demands.specs.History.{Event, power, next, said, along, booksOf}
 use Rattle.demands.specs.Demands.{reached}
 use Rattle.demands.specs.Examples.{program, replies, bare, sends, taken}
-use Rattle.demands.specs.Issued.{issued-kept}
-use Rattle.demands.specs.Proof2.{standing}
-use Rattle.demands.specs.Proof3.{equal-replies}
+use Rattle.demands.specs.Laws.Issued.{issued-kept}
+use Rattle.demands.specs.Proofs.Demand2.{standing}
+use Rattle.demands.specs.Proofs.Demand3.{equal-replies}
 
 -- an entry committed, and the log cleared
 unfoldable pub written-and-cleared : List Event

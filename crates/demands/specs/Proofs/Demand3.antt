@@ -24,10 +24,10 @@ use Rattle.demands.specs.Books.{booked}
 use Rattle.demands.specs.DataFiles.{Write, filed, stored}
 use Rattle.demands.specs.History.{Event, command, session, power, next, Said, said, run, along, bookLine, fileLine, lineBy, traced, booksOf}
 use Rattle.demands.specs.Demands.{Kept, Taken, reached, Demand3, EqualReplies}
-use Rattle.demands.specs.Steps.{sound-view, plays, moves, outcome-plays, next-kept, view-next, run-kept, view-run, along-views}
-use Rattle.demands.specs.BooksLaw.{books-law}
-use Rattle.demands.specs.FilesLaw.{files-law}
-use Rattle.demands.specs.Issued.{issued-kept, issued-open, issued-books}
+use Rattle.demands.specs.Laws.Steps.{sound-view, plays, moves, outcome-plays, next-kept, view-next, run-kept, view-run, along-views}
+use Rattle.demands.specs.Laws.Booked.{books-law}
+use Rattle.demands.specs.Laws.Filed.{files-law}
+use Rattle.demands.specs.Laws.Issued.{issued-kept, issued-open, issued-books}
 
 -- ---- a history's lines on the card are those on the state
 

@@ -15,9 +15,9 @@ use Rattle.card.specs.Events.{laidInto, issued}
 use Rattle.card.specs.Laws.{command-plays, plays-accepted, plays-refused}
 use Rattle.demands.specs.History.{Event}
 use Rattle.demands.specs.Demands.{Kept, rowsFor, FirstRow, Accepts, Refuses, Demand2, Taken, reached, Standing}
-use Rattle.demands.specs.FirstRow.{none-first, first-found, found-first}
-use Rattle.demands.specs.Steps.{run-kept, outcome-plays}
-use Rattle.demands.specs.Issued.{issued-kept}
+use Rattle.demands.specs.Laws.FirstRow.{none-first, first-found, found-first}
+use Rattle.demands.specs.Laws.Steps.{run-kept, outcome-plays}
+use Rattle.demands.specs.Laws.Issued.{issued-kept}
 
 module _ (c : Card) (f : List ℕ) where
   accepted : (statusOf (view c .core) f ≡ ok) ↔ NoReason (rowsFor c f)

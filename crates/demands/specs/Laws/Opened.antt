@@ -16,7 +16,7 @@ use Rattle.logbook.specs.Journal as journal
 use Rattle.logbook.specs.View as log
 use Rattle.logbook.specs.Fit.{Fit, Sixteens}
 use Rattle.demands.specs.Books.{Op, paid-in, paid-out, rebooked, entered, cleared, outflow, inflow, taken, isDebit, isEntry, isClear, sum, some, valueAfter, allowanceAfter, overwritten}
-use Rattle.demands.specs.Posting.{one-more, has-clear, plus, minus, value-none, logAfter}
+use Rattle.demands.specs.Laws.Posting.{one-more, has-clear, plus, minus, value-none, logAfter}
 
 -- ---- the value file
 

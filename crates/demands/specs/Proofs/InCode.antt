@@ -21,8 +21,8 @@ use Rattle.card.specs.Events.{laidInto, commanded, sessionChanged, poweredUp, i
 use Rattle.card.specs.Laws.{answered-as, command-plays, command-short, session-unknown}
 use Rattle.demands.specs.History.{Event, command, session, power, outcome, next, Said, said, run, along}
 use Rattle.demands.specs.Demands.{Kept, Taken, seen, Ran, done, commands, changes, powers, short, unknown, InCode}
-use Rattle.demands.specs.Steps.{plays, outcome-plays, next-kept}
-use Rattle.demands.specs.Issued.{issued-kept}
+use Rattle.demands.specs.Laws.Steps.{plays, outcome-plays, next-kept}
+use Rattle.demands.specs.Laws.Issued.{issued-kept}
 
 -- the room of the buffer shows in no outcome, once there is room
 same-room : (c : Card) → Kept c → (f : List ℕ) (room : ℕ) → 258 ≤ room → commanded c f room ≡ outcome c (command f)

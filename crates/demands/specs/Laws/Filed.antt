@@ -21,9 +21,9 @@ use Rattle.card.specs.Events.{ended, refused, accepted, played, withSession}
 use Rattle.demands.specs.Strike.{Line, posted, broken, idle, posts, through}
 use Rattle.demands.specs.DataFiles.{Write, stored}
 use Rattle.demands.specs.History.{Event, command, session, power, run, along, fileLine, lineBy}
-use Rattle.demands.specs.Sound.{Sound, Sized}
-use Rattle.demands.specs.Steps.{plays, moves, moves-sound}
-use Rattle.demands.specs.Inside.{write-room, write-file}
+use Rattle.demands.specs.Laws.Sound.{Sound, Sized}
+use Rattle.demands.specs.Laws.Steps.{plays, moves, moves-sound}
+use Rattle.demands.specs.Laws.Inside.{write-room, write-file}
 
 -- what holds of the three files' numbers
 by-file : (P : ℕ → Type 0) → P 0x00 → P 0x04 → P 0x1F → (n : ℕ) → isData n ≡ true → P n

@@ -12,7 +12,7 @@ use Rattle.tables.specs.Choice.{pick}
 use Rattle.wire.specs.Bytes.{laid}
 use Rattle.demands.specs.Books.{Op, paid-in, paid-out, rebooked, entered, cleared, inflow, outflow, isEntry, isClear, sum, some, valueAfter, allowanceAfter, overwritten, entriesAfter, Books}
 use Rattle.demands.specs.Strike.{through}
-use Rattle.demands.specs.Induct.{flat}
+use Rattle.demands.specs.Laws.Induct.{flat}
 
 pub sum-snoc : (f : Op → ℕ) (tx : List Op) (o : Op) → sum f (tx ++ (o ∷ [])) ≡ sum f tx + f o
 unfolding sum

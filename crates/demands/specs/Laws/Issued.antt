@@ -19,9 +19,9 @@ use Rattle.card.specs.Rules.{brokenBy}
 use Rattle.card.specs.Events.{issued, orderRefusal}
 use Rattle.demands.specs.History.{booksOf}
 use Rattle.demands.specs.Demands.{Kept, Taken}
-use Rattle.demands.specs.Steps.{sound-view}
-use Rattle.demands.specs.Opened.{purse-rests, log-rests}
-use Rattle.demands.specs.BooksLaw.{Open}
+use Rattle.demands.specs.Laws.Steps.{sound-view}
+use Rattle.demands.specs.Laws.Opened.{purse-rests, log-rests}
+use Rattle.demands.specs.Laws.Booked.{Open}
 
 module _ (s : Settings) (v : ℤ) (e : Taken s v) where
   reasons : List Reason

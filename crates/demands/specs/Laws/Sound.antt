@@ -28,7 +28,7 @@ use Rattle.commands.specs.Rows.{rowsOf, switchedOff, ok, commandStatus}
 use Rattle.commands.specs.Laws.{command-clear, inside, credit-inside, debit-inside, rebook-inside}
 use Rattle.effects.specs.Effects.{purseAfter, journalAfter, filesAfter, changed}
 use Rattle.card.specs.Events.{ended, withSession}
-use Rattle.demands.specs.Names.{by-name, purse-other, journal-other}
+use Rattle.demands.specs.Laws.Names.{by-name, purse-other, journal-other}
 
 pub record Sized (f : Files) : Type 0 where
   pub f00 : length (f .f00) ≡ 256

@@ -26,9 +26,9 @@ use Rattle.card.specs.Events.{ended, refused, accepted, played, laidInto, comma
 use Rattle.card.specs.Laws.{answered-as, command-plays, command-short}
 use Rattle.demands.specs.History.{booksOf}
 use Rattle.demands.specs.Demands.{Kept, statuses, among, Untouched, Replied, Demand1}
-use Rattle.demands.specs.FirstRow.{first-listed}
-use Rattle.demands.specs.Sound.{ended-sound}
-use Rattle.demands.specs.Steps.{sound-view, view-put}
+use Rattle.demands.specs.Laws.FirstRow.{first-listed}
+use Rattle.demands.specs.Laws.Sound.{ended-sound}
+use Rattle.demands.specs.Laws.Steps.{sound-view, view-put}
 
 ended-untouched : (c : Card) → Kept c → Untouched c (put c (ended (view c)))
 unfolding put ended view purse.dropped purse.resting journal.dropped journal.resting log.put log.some

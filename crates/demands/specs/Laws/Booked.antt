@@ -19,13 +19,13 @@ use Rattle.card.specs.Events.{ended, refused, accepted, played, withSession}
 use Rattle.demands.specs.Strike.{Line, broken, strike, part, through}
 use Rattle.demands.specs.Books.{Op, valueAfter, Books, booked}
 use Rattle.demands.specs.History.{Event, command, session, power, run, along, bookLine, lineBy, booksOf}
-use Rattle.demands.specs.Names.{Other, by-name, purse-other, journal-other, book-other}
-use Rattle.demands.specs.Sound.{Sound, changed-sound, ended-sound, session-sound}
-use Rattle.demands.specs.Steps.{plays, moves}
-use Rattle.demands.specs.Inside.{entry-room}
-use Rattle.demands.specs.Induct.{Moved, from-rest, flat-part}
-use Rattle.demands.specs.Posting.{balance, value-sum, allowance-through, log-four}
-use Rattle.demands.specs.Opened.{OpenPurse, purse-rests, purse-in, purse-out, purse-rebooked, purse-entered, purse-cleared, allowance-booked, OpenLog, log-rests, log-in, log-out, log-rebooked, log-entered, log-cleared, log-booked}
+use Rattle.demands.specs.Laws.Names.{Other, by-name, purse-other, journal-other, book-other}
+use Rattle.demands.specs.Laws.Sound.{Sound, changed-sound, ended-sound, session-sound}
+use Rattle.demands.specs.Laws.Steps.{plays, moves}
+use Rattle.demands.specs.Laws.Inside.{entry-room}
+use Rattle.demands.specs.Laws.Induct.{Moved, from-rest, flat-part}
+use Rattle.demands.specs.Laws.Posting.{balance, value-sum, allowance-through, log-four}
+use Rattle.demands.specs.Laws.Opened.{OpenPurse, purse-rests, purse-in, purse-out, purse-rebooked, purse-entered, purse-cleared, allowance-booked, OpenLog, log-rests, log-in, log-out, log-rebooked, log-entered, log-cleared, log-booked}
 
 pub record Open (s : State) (tx : List Op) : Type 0 where
   pub sound : Sound s

@@ -27,7 +27,7 @@ use Rattle.card.specs.Events.{Played, ended, refused, accepted, played, laidInt
 use Rattle.card.specs.Laws.{pending-view, command-plays}
 use Rattle.demands.specs.History.{Event, command, session, power, outcome, next, run, along}
 use Rattle.demands.specs.Demands.{Kept}
-use Rattle.demands.specs.Sound.{Sound, changed-sound, ended-sound, session-sound}
+use Rattle.demands.specs.Laws.Sound.{Sound, changed-sound, ended-sound, session-sound}
 
 -- ---- a card that keeps the rules stands for a sound state
 
