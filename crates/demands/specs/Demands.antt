@@ -6,13 +6,11 @@ use mathlib.Core.Logic.{_↔_}
 use mathlib.Core.Path.{_≡_}
 use lib.Dec.{eqb}
 use lib.IntN.{ℤ}
-use lib.ListN.{length, take}
+use lib.ListN.{length}
 use Rattle.tables.specs.Reasons.{Reason, NoReason}
 use Rattle.wire.specs.Bytes.{laid, word}
 use Rattle.purse.specs.Purse.{within}
 use Rattle.access.specs.declared.Session.the-variants.{Nobody}
-use Rattle.access.specs.declared.Session.{Session}
-use Rattle.access.specs.Rights.{sessionSound}
 use Rattle.frames.specs.Frame.{insOf, dataOf}
 use Rattle.commands.specs.declared.Settings.{Settings}
 use Rattle.commands.specs.Rows.{rowsOf, ok, statusOf}
@@ -20,11 +18,11 @@ use Rattle.card.specs.declared.Card.{Card}
 use Rattle.card.specs.declared.Reply.{Reply}
 use Rattle.card.specs.View.{view}
 use Rattle.card.specs.Rules.{broken}
-use Rattle.card.specs.Outcome.{replyOf, Answered}
-use Rattle.card.specs.Events.{refused, accepted, laidInto, commanded, sessionChanged, poweredUp, issued, orderRefusal}
+use Rattle.card.specs.Outcome.{Answered}
+use Rattle.card.specs.Events.{refused, accepted, laidInto, commanded, issued, orderRefusal}
 use Rattle.demands.specs.Books.{booked}
 use Rattle.demands.specs.DataFiles.{filed}
-use Rattle.demands.specs.History.{Event, command, session, power, outcome, next, Said, said, run, along, bookLine, fileLine, traced, booksOf}
+use Rattle.demands.specs.History.{Event, session, power, outcome, next, Said, said, run, along, bookLine, fileLine, traced, booksOf}
 
 -- a card that keeps the standing rules; its fields have the sizes that their types give them
 pub record Kept (c : Card) : Type 0 where
@@ -131,25 +129,9 @@ abbrev pub EqualReplies : Type 0
 EqualReplies = (c d : Card) → Kept c → Kept d → c .settings ≡ d .settings → c .files ≡ d .files → booksOf (view c) ≡ booksOf (view d)
     → (es : List Event) → along next said (next c power) es ≡ along next said (next d power) es
 
--- ---- the code: runs of the methods, each call as its contract says
+-- ---- the code: what the methods return along a run is what the definitions say
 
--- what is seen of a reply r and the buffer after the call
-abbrev pub seen : Reply → List ℕ → Said
-seen r after = record { refusal = r .refusal; bytes = take (r .len) after; len = r .len }
-
--- from the card c calls led to the card d: es is the history, ss what was seen of its events; the last two are no part of it
-pub data Ran : Card → List Event → List Said → Card → Type 0 where
-  done : {c : Card} → Ran c [] [] c
-  commands : {c d : Card} {es : List Event} {ss : List Said} (f before after : List ℕ) (r : Reply) → 258 ≤ length before
-      → Answered (commanded c f (length before)) before after r → Ran (r .card) es ss d → Ran c (command f ∷ es) (seen r after ∷ ss) d
-  changes : {c d : Card} {es : List Event} {ss : List Said} (k : Session) (known : sessionSound k ≡ true) (r : Reply)
-      → r ≡ replyOf (sessionChanged c k) → Ran (r .card) es ss d → Ran c (session k known ∷ es) (seen r [] ∷ ss) d
-  powers : {c d : Card} {es : List Event} {ss : List Said} (r : Reply) → r ≡ replyOf (poweredUp c) → Ran (r .card) es ss d → Ran c (power ∷ es) (seen r [] ∷ ss) d
-  short : {c d : Card} {es : List Event} {ss : List Said} (f before after : List ℕ) (r : Reply) → length before < 258
-      → Answered (commanded c f (length before)) before after r → Ran (r .card) es ss d → Ran c es ss d
-  unknown : {c d : Card} {es : List Event} {ss : List Said} (k : Session) (r : Reply) → sessionSound k ≡ false
-      → r ≡ replyOf (sessionChanged c k) → Ran (r .card) es ss d → Ran c es ss d
-
+-- calls of the methods led from the personalised card to d, with the history es, and ss was seen of its events
 pub record InCode (s : Settings) (v : ℤ) (es : List Event) (ss : List Said) (d : Card) : Type 0 where
   pub taken : Taken s v
   pub card : d ≡ reached s v es

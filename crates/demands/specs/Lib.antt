@@ -2,6 +2,7 @@ pub mod Strike
 pub mod Books
 pub mod DataFiles
 pub mod History
+pub mod Calls
 pub mod Demands
 pub mod Examples
 pub mod Laws

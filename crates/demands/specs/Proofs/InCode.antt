@@ -20,7 +20,8 @@ use Rattle.card.specs.Outcome.{Outcome, replyOf, Answered, bench}
 use Rattle.card.specs.Events.{laidInto, commanded, sessionChanged, poweredUp, issued, personalised}
 use Rattle.card.specs.Laws.{answered-as, command-plays, command-short, session-unknown}
 use Rattle.demands.specs.History.{Event, command, session, power, outcome, next, Said, said, run, along}
-use Rattle.demands.specs.Demands.{Kept, Taken, seen, Ran, done, commands, changes, powers, short, unknown, InCode}
+use Rattle.demands.specs.Demands.{Kept, Taken, InCode}
+use Rattle.demands.specs.Calls.{seen, Ran, done, commands, changes, powers, short, unknown}
 use Rattle.demands.specs.Laws.Steps.{plays, outcome-plays, next-kept}
 use Rattle.demands.specs.Laws.Issued.{issued-kept}
 
@@ -84,7 +85,7 @@ unknown-same c k r e q = ap (λ (y : Reply). y .card) (q ∙ sym (session-unknow
 follows-from : (c k : Card) (es : List Event) (ss : List Said) (d : Card) → k ≡ c → Follows k es ss d → Follows c es ss d
 follows-from c k es ss d e h = rw e at h
 
-ran-follows : {c d : Card} {es : List Event} {ss : List Said} → Ran c es ss d → Kept c → Follows c es ss d
+ran-follows : {c d : Card} {es : List Event} {ss : List Said} → Ran d c es ss → Kept c → Follows c es ss d
 ran-follows done h = unfold run along in (refl, refl)
 ran-follows {c} {d} (commands {es = es} {ss = ss} f before after r room a rest) h =
     let b : Answered (outcome c (command f)) before after r = answered-as _ _ before after r (same-room c h f (length before) room) a in
@@ -105,7 +106,7 @@ ran-follows {c} {d} {es} {ss} (unknown k r q p rest) h =
 -- ---- from an accepted personalisation
 
 pub in-code : (s : Settings) (v : ℤ) (r : Reply) (es : List Event) (ss : List Said) (d : Card) → r ≡ replyOf (personalised s v) → r .refusal ≡ 0
-    → Ran (r .card) es ss d → InCode s v es ss d
+    → Ran d (r .card) es ss → InCode s v es ss d
 unfolding personalised bench replyOf
 in-code s v r es ss d q z ran =
     let t : Taken s v = sym (ap (λ (y : Reply). y .refusal) q) ∙ z in
@@ -129,10 +130,10 @@ unfolding said replyOf outcome
 command-seen c f before = seen-answered (commanded c f 258) before _ _ (refl, refl)
 
 -- what was seen, in the words of said
-seen-as : (c d : Card) (e : Event) (es : List Event) (x y : Said) (ss : List Said) → x ≡ y → Ran c (e ∷ es) (x ∷ ss) d → Ran c (e ∷ es) (y ∷ ss) d
-seen-as c d e es x y ss q h = subst (λ (z : Said). Ran c (e ∷ es) (z ∷ ss) d) q h
+seen-as : (c d : Card) (e : Event) (es : List Event) (x y : Said) (ss : List Said) → x ≡ y → Ran d c (e ∷ es) (x ∷ ss) → Ran d c (e ∷ es) (y ∷ ss)
+seen-as c d e es x y ss q h = subst (λ (z : Said). Ran d c (e ∷ es) (z ∷ ss)) q h
 
-pub runs : (c : Card) → Kept c → (es : List Event) → Ran c es (along next said c es) (run next c es)
+pub runs : (c : Card) → Kept c → (es : List Event) → Ran (run next c es) c es (along next said c es)
 unfolding run along outcome replyOf
 runs c h [] = done
 runs c h (command f ∷ es) = seen-as c _ _ es _ _ _ (command-seen c f (replicate 258 0)) (commands f (replicate 258 0) _ (replyOf (commanded c f 258)) (omega arith) (refl, refl) (runs (next c (command f)) (next-kept c h (command f)) es))
