@@ -100,12 +100,13 @@ pub listing : replies
 unfolding replies
 listing = refl
 
--- two sales; then a sale torn by a power-up, and one that an abort drops
+-- a sale; a re-booking with an entry, across a session change; a sale torn by a power-up; a credit that an abort drops
 unfoldable pub sales : List Event
 sales =
     sends 0xDC (3 ∷ 0x1E ∷ 0 ∷ 0 ∷ 0 ∷ [])
     ∷ bare 0xC7
     ∷ sends 0x1C (3 ∷ 0x05 ∷ 0 ∷ 0 ∷ 0 ∷ [])
+    ∷ sends 0x8B (1 ∷ 0x00 ∷ 0 ∷ 0 ∷ 0x01 ∷ 0 ∷ 0 ∷ 0xAA ∷ [])
     ∷ sends 0x8B (1 ∷ 0x0F ∷ 0 ∷ 0 ∷ 0x01 ∷ 0 ∷ 0 ∷ 0xBB ∷ [])
     ∷ session Nobody refl
     ∷ bare 0xC7
@@ -115,13 +116,13 @@ sales =
     ∷ bare 0xA7
     ∷ []
 
--- no model that stops after its first transaction: 100 less 30, and 5 of the 30 re-booked
+-- no model that stops after its first transaction: 100 less 30, and 5 of them back
 pub second-transaction : run next (events.issued program (pos 100)) sales .purse .value ≡ pos 75
 unfolding replies sales
 second-transaction = refl
 
 -- and the books say the same
 pub sales-booked : books sales
-    ≡ record { value = pos 75; allowance = 25; log = (0 ∷ 0 ∷ 0 ∷ 0 ∷ 0 ∷ 0 ∷ 0 ∷ 0 ∷ 0 ∷ 0 ∷ 0 ∷ 0 ∷ 0 ∷ 0 ∷ 0 ∷ 0xBB ∷ []) ∷ [] }
+    ≡ record { value = pos 75; allowance = 25; log = (0xAA ∷ 0 ∷ 0 ∷ 0 ∷ 0 ∷ 0 ∷ 0 ∷ 0 ∷ 0 ∷ 0 ∷ 0 ∷ 0 ∷ 0 ∷ 0 ∷ 0 ∷ 0xBB ∷ []) ∷ [] }
 unfolding books sales
 sales-booked = refl

@@ -9,7 +9,6 @@ use lib.IntN.{ℤ, pos, _+ℤ_, _-ℤ_, negℤ, +ℤ-assoc, +ℤ-comm, +ℤ-idr,
 use lib.ListN.{take, replicate}
 use lib.Seq.{take-take}
 use Rattle.tables.specs.Choice.{pick}
-use Rattle.wire.specs.Bytes.{laid}
 use Rattle.demands.specs.Books.{Op, paid-in, paid-out, rebooked, entered, cleared, inflow, outflow, isEntry, isClear, sum, some, valueAfter, allowanceAfter, overwritten, entriesAfter, Books}
 use Rattle.demands.specs.Strike.{through}
 use Rattle.demands.specs.Laws.Induct.{flat}
@@ -30,7 +29,7 @@ overwritten-snoc e [] o = refl
 overwritten-snoc e (paid-in n ∷ os) o = overwritten-snoc e os o
 overwritten-snoc e (paid-out n ∷ os) o = overwritten-snoc e os o
 overwritten-snoc e (rebooked n ∷ os) o = overwritten-snoc e os o
-overwritten-snoc e (entered at bytes ∷ os) o = overwritten-snoc (laid e at bytes) os o
+overwritten-snoc e (entered at bytes ∷ os) o = overwritten-snoc _ os o
 overwritten-snoc e (cleared ∷ os) o = overwritten-snoc e os o
 
 pub ruleset one-more = (sum-snoc, some-snoc, overwritten-snoc, add-zero, or-false, or-true)
