@@ -22,7 +22,7 @@ use Rattle.card.specs.Outcome.{Answered}
 use Rattle.card.specs.Events.{refused, accepted, laidInto, commanded, issued, orderRefusal}
 use Rattle.demands.specs.Books.{booked}
 use Rattle.demands.specs.DataFiles.{filed}
-use Rattle.demands.specs.History.{Event, session, power, outcome, next, Said, said, run, along, bookLine, fileLine, traced, booksOf}
+use Rattle.demands.specs.History.{Event, power, outcome, next, Said, said, run, along, bookLine, fileLine, traced, booksOf}
 
 -- a card that keeps the standing rules; its fields have the sizes that their types give them
 pub record Kept (c : Card) : Type 0 where
@@ -53,6 +53,7 @@ pub record Untouched (before after : Card) : Type 0 where
   pub pending-value : after .purse .pending ≡ after .purse .value
   pub pending-allowance : after .purse .left ≡ after .purse .allowance
   pub no-debit : after .purse .debited ≡ false
+  pub no-debit-sum : after .purse .debits ≡ 0
   pub no-entry : after .log .adds ≡ false
   pub no-clear : after .log .clears ≡ false
 
@@ -131,8 +132,14 @@ EqualReplies = (c d : Card) → Kept c → Kept d → c .settings ≡ d .setting
 
 -- ---- the code: what the methods return along a run is what the definitions say
 
+-- no bench refusal among what was seen
+abbrev pub Unrefused : List Said → Type 0
+Unrefused [] = Unit {0}
+Unrefused (x ∷ xs) = (x .refusal ≡ 0) × Unrefused xs
+
 -- calls of the methods led from the personalised card to d, with the history es, and ss was seen of its events
 pub record InCode (s : Settings) (v : ℤ) (es : List Event) (ss : List Said) (d : Card) : Type 0 where
   pub taken : Taken s v
   pub card : d ≡ reached s v es
   pub replies : ss ≡ along next said (issued s v) es
+  pub unrefused : Unrefused ss

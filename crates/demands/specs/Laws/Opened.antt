@@ -14,8 +14,9 @@ use Rattle.purse.specs.Purse as purse
 use Rattle.logbook.specs.Journal.{Journal}
 use Rattle.logbook.specs.Journal as journal
 use Rattle.logbook.specs.View as log
-use Rattle.logbook.specs.Fit.{Fit, Sixteens}
+use Rattle.logbook.specs.Fit.{Fit}
 use Rattle.demands.specs.Books.{Op, paid-in, paid-out, rebooked, entered, cleared, outflow, inflow, taken, isDebit, isEntry, isClear, sum, some, valueAfter, allowanceAfter, overwritten}
+use Rattle.demands.specs.Laws.Sound.{fresh-sized}
 use Rattle.demands.specs.Laws.Posting.{one-more, has-clear, plus, minus, value-none, logAfter}
 
 -- ---- the value file
@@ -66,11 +67,6 @@ pub log-rests : (es : List (List ℕ)) → OpenLog (journal.resting es) []
 unfolding journal.resting journal.freshOr journal.blank log.some some overwritten
 log-rests es = record { clears = refl; adds = λ _. refl; entry = λ _. refl }
 
-entry-sized : (fs : List (List ℕ)) → Sixteens fs → length (journal.freshOr journal.blank fs) ≡ 16
-unfolding journal.freshOr journal.blank
-entry-sized [] h = refl
-entry-sized (f ∷ fs) (h, hs) = h
-
 pushed-one : (fs es : List (List ℕ)) → journal.pushed fs es ≡ pick (log.some fs) (take 4 (journal.freshOr journal.blank fs ∷ es)) es
 unfolding journal.pushed journal.freshOr log.some pick
 pushed-one [] es = refl
@@ -92,7 +88,7 @@ module _ (j : Journal) (tx : List Op) (h : OpenLog j tx) where
   pub log-entered : Fit j → (at : ℕ) (bytes : List ℕ) → at + length bytes ≤ 16 → OpenLog (journal.written j at bytes) (tx ++ (entered at bytes ∷ []))
   unfolding overwritten journal.written journal.freshOr log.some
   log-entered f at bytes room =
-      let sized = entry-sized (j .fresh) (f .fresh-sized) in
+      let sized = fresh-sized journal.blank (j .fresh) (unfold journal.blank in refl) (f .fresh-sized) in
       let e : laidIn (journal.freshOr journal.blank (j .fresh)) at bytes ≡ laid (journal.freshOr journal.blank (j .fresh)) at bytes = laid-room _ at bytes (omega arith) in
       record { clears = simp one-more (h .clears); adds = simp one-more (λ _. refl); entry = simp one-more (λ q. e ∙ rw (h .entry q)) }
 

@@ -1,7 +1,7 @@
 -- The standing rules of a state, with the sizes of its files and entries, and that every step keeps them.
 use Prim.Native.Nat.{ℕ, _+_}
 use mathlib.Core.Bool.{Bool, true, false, _&&_, or-true}
-use mathlib.Core.List.{List}
+use mathlib.Core.List.{List, [], _∷_}
 use mathlib.Core.Path.{_≡_, refl, _∙_}
 use borrow.Author.Tests.{not-false, leb-true}
 use lib.Dec.{leb}
@@ -18,7 +18,7 @@ use Rattle.purse.specs.Laws as purse-laws
 use Rattle.logbook.specs.Journal.{Journal}
 use Rattle.logbook.specs.Journal as journal
 use Rattle.logbook.specs.View as log
-use Rattle.logbook.specs.Fit.{Fit}
+use Rattle.logbook.specs.Fit.{Fit, Sixteens}
 use Rattle.logbook.specs.FitLaws.{fit-written, fit-cleared, fit-settled, fit-dropped}
 use Rattle.access.specs.declared.Session.{Session}
 use Rattle.access.specs.Rights.{sessionSound}
@@ -103,6 +103,13 @@ written-sized f n at x h =
 files-kept : (f : Files) (i : ℕ) (d : List ℕ) → Sized f → Sized (filesAfter i d f)
 unfolding filesAfter
 files-kept f i d h = pick-both Sized _ _ _ (written-sized f _ _ _ h) h
+
+-- ---- the new entry, or e where there is none
+
+pub fresh-sized : (e : List ℕ) (fs : List (List ℕ)) → length e ≡ 16 → Sixteens fs → length (journal.freshOr e fs) ≡ 16
+unfolding journal.freshOr
+fresh-sized e [] l h = l
+fresh-sized e (f ∷ fs) l (h, hs) = h
 
 -- ---- the steps
 

@@ -11,23 +11,22 @@ use Rattle.tables.specs.Choice.{pick, pick-cases, passed, none, not-no, or-no, 
 use Rattle.wire.specs.Laws.{length-laid}
 use Rattle.purse.specs.Laws as purse-laws
 use Rattle.logbook.specs.declared.Log.{Log}
-use Rattle.logbook.specs.Journal.{Journal, joined, freshOr}
+use Rattle.logbook.specs.Journal.{Journal, joined}
 use Rattle.logbook.specs.View as log
 use Rattle.logbook.specs.Laws as logbook
-use Rattle.logbook.specs.Fit.{Sixteens}
 use Rattle.logbook.specs.FitLaws.{fit-view, joined-room}
 use Rattle.commands.specs.State.{State, logPending}
 use Rattle.commands.specs.Rows.{ok, statusOf}
 use Rattle.commands.specs.Laws.{command-ok}
 use Rattle.card.specs.declared.Card.{Card}
 use Rattle.card.specs.View.{view, put}
-use Rattle.card.specs.Rules.{rules, brokenBy, broken}
+use Rattle.card.specs.Rules.{rules, brokenBy}
 use Rattle.card.specs.Outcome.{Outcome}
 use Rattle.card.specs.Events.{Played, ended, refused, accepted, played, laidInto, withSession, sessionChanged, poweredUp}
 use Rattle.card.specs.Laws.{pending-view, command-plays}
 use Rattle.demands.specs.History.{Event, command, session, power, outcome, next, run, along}
 use Rattle.demands.specs.Demands.{Kept}
-use Rattle.demands.specs.Laws.Sound.{Sound, changed-sound, ended-sound, session-sound}
+use Rattle.demands.specs.Laws.Sound.{Sound, fresh-sized, changed-sound, ended-sound, session-sound}
 
 -- ---- a card that keeps the rules stands for a sound state
 
@@ -54,11 +53,6 @@ sound-view c h =
     }
 
 -- a sound state, laid into a card, is a card that keeps the rules and stands for that state
-
-fresh-sized : (e : List ℕ) (fs : List (List ℕ)) → length e ≡ 16 → Sixteens fs → length (freshOr e fs) ≡ 16
-unfolding freshOr
-fresh-sized e [] l h = l
-fresh-sized e (f ∷ fs) l (h, hs) = h
 
 pub put-kept : (c : Card) (s : State) → Kept c → Sound s → Kept (put c s)
 unfolding put brokenBy log.put log.broken logPending

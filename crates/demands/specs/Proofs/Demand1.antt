@@ -42,6 +42,7 @@ ended-untouched c h =
       pending-value = refl;
       pending-allowance = refl;
       no-debit = refl;
+      no-debit-sum = refl;
       no-entry = refl;
       no-clear = refl;
     }

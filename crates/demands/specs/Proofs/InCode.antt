@@ -20,7 +20,7 @@ use Rattle.card.specs.Outcome.{Outcome, replyOf, Answered, bench}
 use Rattle.card.specs.Events.{laidInto, commanded, sessionChanged, poweredUp, issued, personalised}
 use Rattle.card.specs.Laws.{answered-as, command-plays, command-short, session-unknown}
 use Rattle.demands.specs.History.{Event, command, session, power, outcome, next, Said, said, run, along}
-use Rattle.demands.specs.Demands.{Kept, Taken, InCode}
+use Rattle.demands.specs.Demands.{Kept, Taken, Unrefused, InCode}
 use Rattle.demands.specs.Calls.{seen, Ran, done, commands, changes, powers, short, unknown}
 use Rattle.demands.specs.Laws.Steps.{plays, outcome-plays, next-kept}
 use Rattle.demands.specs.Laws.Issued.{issued-kept}
@@ -103,6 +103,11 @@ ran-follows {c} {d} {es} {ss} (unknown k r q p rest) h =
     let e = unknown-same c k r q p in
     follows-from c (r .card) es ss d e (ran-follows rest (subst (λ (k : Card). Kept k) (sym e) h))
 
+said-unrefused : (c : Card) → Kept c → (es : List Event) → Unrefused (along next said c es)
+unfolding along said laidInto
+said-unrefused c h [] = tt
+said-unrefused c h (e ∷ es) = (ap (λ (o : Outcome). o .refusal) (outcome-plays c h e), said-unrefused (next c e) (next-kept c h e) es)
+
 -- ---- from an accepted personalisation
 
 pub in-code : (s : Settings) (v : ℤ) (r : Reply) (es : List Event) (ss : List Said) (d : Card) → r ≡ replyOf (personalised s v) → r .refusal ≡ 0
@@ -113,7 +118,7 @@ in-code s v r es ss d q z ran =
     let e : r .card ≡ issued s v = ap (λ (y : Reply). y .card) q ∙ picked _ _ (eq-eqb _ _ t) in
     let f = ran-follows ran (subst (λ (k : Card). Kept k) (sym e) (issued-kept s v t)) in
     let g = follows-from (issued s v) (r .card) es ss d e f in
-    record { taken = t; card = g .0; replies = g .1 }
+    record { taken = t; card = g .0; replies = g .1; unrefused = subst (λ (x : List Said). Unrefused x) (sym (g .1)) (said-unrefused (issued s v) (issued-kept s v t) es) }
 
 -- ---- every history has a run, so the theorem speaks of all of them
 
