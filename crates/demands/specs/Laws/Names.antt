@@ -6,11 +6,10 @@ use mathlib.Core.Path.{_≡_, refl, sym, subst}
 use borrow.Author.Tests.{eqb-true}
 use lib.Dec.{eqb}
 use Rattle.tables.specs.Choice.{pick}
-use Rattle.datafiles.specs.declared.Files.{Files}
 use Rattle.purse.specs.declared.Purse.{Purse}
 use Rattle.logbook.specs.Journal.{Journal}
 use Rattle.commands.specs.Table.{writeData, credit, debit, limitedCredit, writeRecord, clearRecordFile, commitTransaction, abortTransaction}
-use Rattle.effects.specs.Effects.{purseAfter, journalAfter, filesAfter}
+use Rattle.effects.specs.Effects.{purseAfter, journalAfter}
 use Rattle.demands.specs.Strike.{idle}
 use Rattle.demands.specs.History.{bookLine}
 
@@ -55,10 +54,6 @@ module _ (i : ℕ) (d : List ℕ) where
   pub journal-other : (j : Journal) → Other i → journalAfter i d j ≡ j
   unfolding journalAfter pick
   journal-other j o = simp (o .no-entry, o .no-clear, o .no-commit, o .no-abort)
-
-  pub files-other : (f : Files) → Other i → filesAfter i d f ≡ f
-  unfolding filesAfter pick
-  files-other f o = simp (o .no-write)
 
   pub book-other : Other i → bookLine i d ≡ idle
   unfolding bookLine pick
