@@ -63,7 +63,6 @@ module _ (s : State) (tx : List Op) (d : List ℕ) (h : Open s tx) where
       (λ e. (unfold journal.cleared in refl, record { sound = sound-after _ e; value = purse-cleared _ tx (h .value); entries = log-cleared _ tx (h .entries) }))
       (λ e. (commit-booked, record { sound = sound-after _ e; value = unfold purse.settled in purse-rests _ _; entries = unfold journal.settled in log-rests _ }))
       (λ e. (unfold purse.dropped purse.resting journal.dropped journal.resting in refl, record { sound = sound-after _ e; value = unfold purse.dropped in purse-rests _ _; entries = unfold journal.dropped in log-rests _ }))
-      (λ e. (refl, record { sound = sound-after _ e; value = h .value; entries = h .entries }))
       goes-other
 
 -- ---- any event

@@ -1,4 +1,4 @@
--- What holds of each command that changes something, and of every other INS, holds of every INS.
+-- What holds of each command that changes value or log, and of every other INS, holds of every INS.
 use Prim.Native.Nat.{ℕ}
 use mathlib.Core.List.{List}
 use mathlib.Core.Bool.{Bool, true, false}
@@ -8,7 +8,7 @@ use lib.Dec.{eqb}
 use Rattle.tables.specs.Choice.{pick}
 use Rattle.purse.specs.declared.Purse.{Purse}
 use Rattle.logbook.specs.Journal.{Journal}
-use Rattle.commands.specs.Table.{writeData, credit, debit, limitedCredit, writeRecord, clearRecordFile, commitTransaction, abortTransaction}
+use Rattle.commands.specs.Table.{credit, debit, limitedCredit, writeRecord, clearRecordFile, commitTransaction, abortTransaction}
 use Rattle.effects.specs.Effects.{purseAfter, journalAfter}
 use Rattle.demands.specs.Strike.{idle}
 use Rattle.demands.specs.History.{bookLine}
@@ -22,7 +22,6 @@ pub record Other (i : ℕ) : Type 0 where
   pub no-clear : eqb i clearRecordFile ≡ false
   pub no-commit : eqb i commitTransaction ≡ false
   pub no-abort : eqb i abortTransaction ≡ false
-  pub no-write : eqb i writeData ≡ false
 
 module _ (P : ℕ → Type 0) where
   either : (i k : ℕ) → P k → (eqb i k ≡ false → P i) → P i
@@ -32,19 +31,18 @@ module _ (P : ℕ → Type 0) where
       by true e = subst P (sym (eqb-true i k e)) p
       by false e = q e
 
-  pub by-name : P credit → P debit → P limitedCredit → P writeRecord → P clearRecordFile → P commitTransaction → P abortTransaction → P writeData
+  pub by-name : P credit → P debit → P limitedCredit → P writeRecord → P clearRecordFile → P commitTransaction → P abortTransaction
       → ((i : ℕ) → Other i → P i) → (i : ℕ) → P i
-  by-name p1 p2 p3 p4 p5 p6 p7 p8 q i =
+  by-name p1 p2 p3 p4 p5 p6 p7 q i =
       either i credit p1 λ e1.
       either i debit p2 λ e2.
       either i limitedCredit p3 λ e3.
       either i writeRecord p4 λ e4.
       either i clearRecordFile p5 λ e5.
       either i commitTransaction p6 λ e6.
-      either i abortTransaction p7 λ e7.
-      either i writeData p8 λ e8. q i (record { no-credit = e1; no-debit = e2; no-rebook = e3; no-entry = e4; no-clear = e5; no-commit = e6; no-abort = e7; no-write = e8 })
+      either i abortTransaction p7 λ e7. q i (record { no-credit = e1; no-debit = e2; no-rebook = e3; no-entry = e4; no-clear = e5; no-commit = e6; no-abort = e7 })
 
--- ---- an INS of none of them changes nothing
+-- ---- an INS of none of them changes neither
 
 module _ (i : ℕ) (d : List ℕ) where
   pub purse-other : (p : Purse) → Other i → purseAfter i d p ≡ p

@@ -67,13 +67,12 @@ module _ (c : Core) (d : List ℕ) where
       (λ e. log-pends h)
       (λ e. purse-laws.settled-sound _ h)
       (λ e. purse-laws.dropped-sound _ h)
-      (λ e. h)
       (λ i o e. rw (purse-other i d (c .purse) o, journal-other i d (c .journal) o) h)
 
   journal-kept : Fit (c .journal) → (i : ℕ) → Fit (journalAfter i d (c .journal))
   unfolding journalAfter pick
   journal-kept h =
-      by-name (λ i. Fit (journalAfter i d (c .journal))) h h h (fit-written _ _ _ h) (fit-cleared _ h) (fit-settled _ h) (fit-dropped _ h) h
+      by-name (λ i. Fit (journalAfter i d (c .journal))) h h h (fit-written _ _ _ h) (fit-cleared _ h) (fit-settled _ h) (fit-dropped _ h)
       (λ i o. rw (journal-other i d (c .journal) o) h)
 
   no-clear-pending : commandStatus c writeRecord d ≡ ok → c .journal .clears ≡ false
@@ -86,7 +85,7 @@ module _ (c : Core) (d : List ℕ) where
   unfolding journalAfter pick journal.written journal.cleared journal.settled journal.dropped journal.resting log.some
   apart-kept h =
       by-name (λ i. commandStatus c i d ≡ ok → both (journalAfter i d (c .journal)) ≡ false)
-      (λ e. h) (λ e. h) (λ e. h) no-clear-pending (λ e. refl) (λ e. refl) (λ e. refl) (λ e. h)
+      (λ e. h) (λ e. h) (λ e. h) no-clear-pending (λ e. refl) (λ e. refl) (λ e. refl)
       (λ i o e. rw (journal-other i d (c .journal) o) h)
 
 length-laidIn : (b : List ℕ) (at : ℕ) (x : List ℕ) → length (laidIn b at x) ≡ length b
