@@ -1,0 +1,145 @@
+-- The three demands, stated: each field is a sentence. The theorems demand1, demand2, standing, demand3, equal-replies and in-code prove them.
+use Prim.Native.Nat.{ℕ, _+_, _≤_, _<_}
+use mathlib.Core.Bool.{Bool, true, false, _||_}
+use mathlib.Core.List.{List, [], _∷_, _++_}
+use mathlib.Core.Logic.{_↔_}
+use mathlib.Core.Path.{_≡_}
+use lib.Dec.{eqb}
+use lib.IntN.{ℤ}
+use lib.ListN.{length}
+use Rattle.tables.specs.Reasons.{Reason, NoReason}
+use Rattle.wire.specs.Bytes.{laid, word}
+use Rattle.purse.specs.Purse.{within}
+use Rattle.access.specs.declared.Session.the-variants.{Nobody}
+use Rattle.frames.specs.Frame.{insOf, dataOf}
+use Rattle.commands.specs.declared.Settings.{Settings}
+use Rattle.commands.specs.Rows.{rowsOf, ok, statusOf}
+use Rattle.card.specs.declared.Card.{Card}
+use Rattle.card.specs.declared.Reply.{Reply}
+use Rattle.card.specs.View.{view}
+use Rattle.card.specs.Rules.{broken}
+use Rattle.card.specs.Outcome.{Answered}
+use Rattle.card.specs.Events.{refused, accepted, laidInto, commanded, issued, orderRefusal}
+use Rattle.demands.specs.Books.{booked}
+use Rattle.demands.specs.DataFiles.{filed}
+use Rattle.demands.specs.History.{Event, power, outcome, next, Said, said, run, along, bookLine, fileLine, traced, booksOf}
+
+-- a card that keeps the standing rules; its fields have the sizes that their types give them
+pub record Kept (c : Card) : Type 0 where
+  pub rules : broken c ≡ false
+  pub f00 : length (c .files .f00) ≡ 256
+  pub f04 : length (c .files .f04) ≡ 256
+  pub f1f : length (c .files .f1f) ≡ 32
+  pub slots : length (c .log .slots) ≡ 64
+  pub entry : length (c .log .entry) ≡ 16
+
+-- ---- demand 1: every byte string gets a reply, and a refusal leaves the card's holdings alone
+
+-- 9100 and the statuses of the order of checks
+unfoldable pub statuses : List ℕ
+statuses = 0x9100 ∷ 0x6700 ∷ 0x6E00 ∷ 0x6A86 ∷ 0x911C ∷ 0x917E ∷ 0x91F0 ∷ 0x919D ∷ 0x91AE ∷ 0x919E ∷ 0x91BE ∷ 0x910C ∷ []
+
+unfoldable pub among : ℕ → List ℕ → Bool
+among n [] = false
+among n (m ∷ ms) = eqb n m || among n ms
+
+-- settings, data files, committed value, allowance and log as before; no session; nothing pending
+pub record Untouched (before after : Card) : Type 0 where
+  pub settings : after .settings ≡ before .settings
+  pub files : after .files ≡ before .files
+  pub books : booksOf (view after) ≡ booksOf (view before)
+  pub no-session : after .session ≡ Nobody
+  pub value-rests : after .purse .moved ≡ false
+  pub pending-value : after .purse .pending ≡ after .purse .value
+  pub pending-allowance : after .purse .left ≡ after .purse .allowance
+  pub no-debit : after .purse .debited ≡ false
+  pub no-debit-sum : after .purse .debits ≡ 0
+  pub no-entry : after .log .adds ≡ false
+  pub no-clear : after .log .clears ≡ false
+
+-- the card c, a lent buffer before and after the call, and what the call returned
+pub record Replied (c : Card) (before after : List ℕ) (r : Reply) : Type 0 where
+  pub shown : List ℕ
+  pub status : ℕ
+  pub listed : among status statuses ≡ true
+  pub bytes : after ≡ laid before 0 (shown ++ word status)
+  pub len : r .len ≡ length shown + 2
+  pub room : r .len ≤ 258
+  pub refusal : r .refusal ≡ 0
+  pub refused : (status ≡ ok → ⊥) → (shown ≡ []) × Untouched c (r .card)
+
+-- the method `command`, as its contract says, left this buffer and returned r
+pub record Demand1 (c : Card) (before after : List ℕ) (r : Reply) : Type 0 where
+  pub replied : Kept c → 258 ≤ length before → Replied c before after r
+  pub short : length before < 258 → (r .card ≡ c) × (after ≡ before)
+
+-- ---- demand 2: refused exactly when a row of the table applies, by the first such row
+
+abbrev pub rowsFor : Card → List ℕ → List Reason
+rowsFor c f = rowsOf (view c .core) f (insOf f) (dataOf f)
+
+-- a row that applies, with none above it that does
+pub record FirstRow (rows : List Reason) (status : ℕ) : Type 0 where
+  pub above : List Reason
+  pub row : Reason
+  pub below : List Reason
+  pub place : rows ≡ above ++ (row ∷ below)
+  pub none-above : NoReason above
+  pub applies : row .applies ≡ true
+  pub names : row .status ≡ status
+
+abbrev pub Accepts : Card → List ℕ → Type 0
+Accepts c f = (room : ℕ) → 258 ≤ room → commanded c f room ≡ laidInto c (accepted (view c) (insOf f) (dataOf f))
+
+abbrev pub Refuses : Card → List ℕ → ℕ → Type 0
+Refuses c f status = (room : ℕ) → 258 ≤ room → commanded c f room ≡ laidInto c (refused (view c) status)
+
+pub record Demand2 (c : Card) (f : List ℕ) : Type 0 where
+  pub accepted : (statusOf (view c .core) f ≡ ok) ↔ NoReason (rowsFor c f)
+  pub refused : (status : ℕ) → ((statusOf (view c .core) f ≡ status) × (status ≡ ok → ⊥)) ↔ FirstRow (rowsFor c f) status
+  pub accepts : Kept c → NoReason (rowsFor c f) → Accepts c f
+  pub refuses : (status : ℕ) → Kept c → FirstRow (rowsFor c f) status → Refuses c f status
+  -- one answer alone fits the contract
+  pub one : (before after after′ : List ℕ) (r r′ : Reply) → Answered (commanded c f (length before)) before after r
+      → Answered (commanded c f (length before)) before after′ r′ → (r ≡ r′) × (after ≡ after′)
+
+-- an accepted personalisation: bench refusals 1 to 3 are not given
+abbrev pub Taken : Settings → ℤ → Type 0
+Taken s v = orderRefusal s v ≡ 0
+
+-- its card after a history
+abbrev pub reached : Settings → ℤ → List Event → Card
+reached s v es = run next (issued s v) es
+
+-- every reached card keeps the standing rules, so no event meets bench refusal 6, or any other
+pub record Standing (s : Settings) (v : ℤ) (es : List Event) : Type 0 where
+  pub keeps : Kept (reached s v es)
+  pub never : (e : Event) → outcome (reached s v es) e .refusal ≡ 0
+
+-- ---- demand 3: value, allowance and log are the books over the struck history
+
+pub record Demand3 (s : Settings) (v : ℤ) (es : List Event) : Type 0 where
+  pub books : booksOf (view (reached s v es)) ≡ booked v (traced bookLine (issued s v) es)
+  pub files : reached s v es .files ≡ filed (traced fileLine (issued s v) es)
+  pub settings : reached s v es .settings ≡ s
+  pub value-inside : within (s .limits) (reached s v es .purse .value) ≡ true
+  pub pending-inside : within (s .limits) (reached s v es .purse .pending) ≡ true
+
+-- two cards of equal settings, data files and books, each just powered up, whatever else lies in them
+abbrev pub EqualReplies : Type 0
+EqualReplies = (c d : Card) → Kept c → Kept d → c .settings ≡ d .settings → c .files ≡ d .files → booksOf (view c) ≡ booksOf (view d)
+    → (es : List Event) → along next said (next c power) es ≡ along next said (next d power) es
+
+-- ---- the code: what the methods return along a run is what the definitions say
+
+-- no bench refusal among what was seen
+abbrev pub Unrefused : List Said → Type 0
+Unrefused [] = Unit {0}
+Unrefused (x ∷ xs) = (x .refusal ≡ 0) × Unrefused xs
+
+-- calls of the methods led from the personalised card to d, with the history es, and ss was seen of its events
+pub record InCode (s : Settings) (v : ℤ) (es : List Event) (ss : List Said) (d : Card) : Type 0 where
+  pub taken : Taken s v
+  pub card : d ≡ reached s v es
+  pub replies : ss ≡ along next said (issued s v) es
+  pub unrefused : Unrefused ss

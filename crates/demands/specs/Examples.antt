@@ -1,0 +1,128 @@
+-- Computed examples on the rules paper's card: no model that is idle, refuses all, has one reply or stops after one transaction.
+use Prim.Native.Nat.{ℕ}
+use mathlib.Core.Bool.{true, false}
+use mathlib.Core.List.{List, [], _∷_, _++_}
+use mathlib.Core.Path.{_≡_, refl}
+use lib.IntN.{pos}
+use lib.ListN.{length}
+use Rattle.tables.specs.Choice.{pick}
+use Rattle.wire.specs.Bytes.{laid, laidIn, outsideOf, le3, le4, four, word}
+use Rattle.datafiles.specs.Files as files
+use Rattle.purse.specs.Purse as purse
+use Rattle.purse.specs.Rules as purse-rules
+use Rattle.logbook.specs.Journal as journal
+use Rattle.logbook.specs.View as log
+use Rattle.access.specs.Rights as access
+use Rattle.access.specs.declared.Session.the-variants.{Nobody}
+use Rattle.frames.specs.Frame as frame
+use Rattle.commands.specs.declared.Settings.{Settings}
+use Rattle.commands.specs.Table as table
+use Rattle.commands.specs.State as state
+use Rattle.commands.specs.Rows as rows
+use Rattle.effects.specs.Effects as effects
+use Rattle.card.specs.View as card
+use Rattle.card.specs.Rules as rules
+use Rattle.card.specs.Outcome as outcomes
+use Rattle.card.specs.Events as events
+use Rattle.demands.specs.Strike.{followed, strike, posts, part, through}
+use Rattle.demands.specs.Books.{sum, some, valueAfter, allowanceAfter, overwritten, entriesAfter, Books, booked}
+use Rattle.demands.specs.History.{Event, command, session, power, outcome, next, Said, said, run, along, bookLine, lineBy, traced}
+
+unfoldable pub program : Settings
+program =
+    record {
+      r00 = 0xEEEE;
+      r04 = 0xEEEE;
+      r1f = 0xEEEE;
+      r03 = 0xEEEE;
+      r01 = 0xEEEE;
+      limits = record { lower = pos 0; upper = pos 1000 };
+      limited = true;
+      free = false;
+    }
+
+-- the replies along a history of the program's card; to unfold this is to unfold all that a computed reply needs
+unfoldable pub replies : List Event → List Said
+unfolding pick laid laidIn outsideOf le3 le4 four word files.sizeOf files.bytesOf files.zeros files.endOf files.shown files.written purse.crossed purse.within purse.resting purse.credited purse.debited purse.rebooked purse.settled purse.dropped purse-rules.unequal purse-rules.broken journal.blank journal.joined journal.shown journal.freshOr journal.written journal.cleared journal.pushed journal.resting journal.settled journal.dropped log.cut log.view log.some log.put log.empty log.broken access.rightsSound access.sealed access.opens access.granted access.accessOf frame.dataStart frame.dataEnd frame.wrongSize frame.wrongClass frame.wrongParameters frame.wrongFrame table.onFile table.isFile table.suits state.rightsOf state.accessTo state.logPending state.rightsBroken rows.unknownCommand rows.lengthCases rows.unknownFile rows.otherKindOrNever rows.notGranted rows.switchedOff rows.parameterCases rows.ranged rows.roomOf rows.amountCases rows.outside rows.nothingPending rows.rowsOf rows.statusOf effects.purseAfter effects.journalAfter effects.filesAfter effects.changed effects.shown card.view card.put rules.brokenBy outcomes.replyOf outcomes.bench events.ended events.refused events.accepted events.played events.laidInto events.commanded events.withSession events.sessionChanged events.poweredUp events.issued outcome said along run program
+replies es = along next said (events.issued program (pos 100)) es
+
+-- the books over such a history
+unfoldable pub books : List Event → Books
+unfolding replies followed strike posts part through sum some valueAfter allowanceAfter overwritten entriesAfter booked bookLine lineBy traced
+books es = booked (pos 100) (traced bookLine (events.issued program (pos 100)) es)
+
+-- the INS i without a data field, and with the data field d
+abbrev pub bare : ℕ → Event
+bare i = command (0x90 ∷ i ∷ 0 ∷ 0 ∷ 0 ∷ [])
+
+abbrev pub sends : ℕ → List ℕ → Event
+sends i d = command (0x90 ∷ i ∷ 0 ∷ 0 ∷ length d ∷ d ++ (0 ∷ []))
+
+abbrev says : List ℕ → Said
+says bytes = record { refusal = 0; bytes = bytes; len = length bytes }
+
+-- the personalisation is accepted
+pub taken : events.orderRefusal program (pos 100) ≡ 0
+unfolding replies events.orderRefusal
+taken = refl
+
+-- no model that refuses everything: Credit 900 is taken, 901 is not
+pub takes-and-refuses : replies (sends 0x0C (3 ∷ 0x84 ∷ 0x03 ∷ 0 ∷ 0 ∷ []) ∷ power ∷ sends 0x0C (3 ∷ 0x85 ∷ 0x03 ∷ 0 ∷ 0 ∷ []) ∷ [])
+    ≡ says (0x91 ∷ 0x00 ∷ []) ∷ says [] ∷ says (0x91 ∷ 0xBE ∷ []) ∷ []
+unfolding replies
+takes-and-refuses = refl
+
+-- no model with a single reply: GetValue of 07h and of 00h
+pub two-replies : replies (sends 0x6C (0x07 ∷ []) ∷ sends 0x6C (0x00 ∷ []) ∷ []) ≡ says (0x91 ∷ 0xF0 ∷ []) ∷ says (0x91 ∷ 0x9D ∷ []) ∷ []
+unfolding replies
+two-replies = refl
+
+-- no idle model: the rules paper's listing, with the length of each reply
+pub listing : replies
+    (sends 0x6C (3 ∷ [])
+    ∷ sends 0xDC (3 ∷ 0x1E ∷ 0 ∷ 0 ∷ 0 ∷ [])
+    ∷ sends 0x6C (3 ∷ [])
+    ∷ bare 0xC7
+    ∷ sends 0x6C (3 ∷ [])
+    ∷ sends 0x1C (3 ∷ 0x1F ∷ 0 ∷ 0 ∷ 0 ∷ [])
+    ∷ power
+    ∷ sends 0x6C (3 ∷ [])
+    ∷ [])
+    ≡ says (0x64 ∷ 0 ∷ 0 ∷ 0 ∷ 0x91 ∷ 0x00 ∷ [])
+    ∷ says (0x91 ∷ 0x00 ∷ [])
+    ∷ says (0x64 ∷ 0 ∷ 0 ∷ 0 ∷ 0x91 ∷ 0x00 ∷ [])
+    ∷ says (0x91 ∷ 0x00 ∷ [])
+    ∷ says (0x46 ∷ 0 ∷ 0 ∷ 0 ∷ 0x91 ∷ 0x00 ∷ [])
+    ∷ says (0x91 ∷ 0xBE ∷ [])
+    ∷ says []
+    ∷ says (0x46 ∷ 0 ∷ 0 ∷ 0 ∷ 0x91 ∷ 0x00 ∷ [])
+    ∷ []
+unfolding replies
+listing = refl
+
+-- a sale; a re-booking with an entry, across a session change; a sale torn by a power-up; a credit that an abort drops
+unfoldable pub sales : List Event
+sales =
+    sends 0xDC (3 ∷ 0x1E ∷ 0 ∷ 0 ∷ 0 ∷ [])
+    ∷ bare 0xC7
+    ∷ sends 0x1C (3 ∷ 0x05 ∷ 0 ∷ 0 ∷ 0 ∷ [])
+    ∷ sends 0x8B (1 ∷ 0x00 ∷ 0 ∷ 0 ∷ 0x01 ∷ 0 ∷ 0 ∷ 0xAA ∷ [])
+    ∷ sends 0x8B (1 ∷ 0x0F ∷ 0 ∷ 0 ∷ 0x01 ∷ 0 ∷ 0 ∷ 0xBB ∷ [])
+    ∷ session Nobody refl
+    ∷ bare 0xC7
+    ∷ sends 0xDC (3 ∷ 0x0A ∷ 0 ∷ 0 ∷ 0 ∷ [])
+    ∷ power
+    ∷ sends 0x0C (3 ∷ 0x0A ∷ 0 ∷ 0 ∷ 0 ∷ [])
+    ∷ bare 0xA7
+    ∷ []
+
+-- no model that stops after its first transaction: 100 less 30, and 5 of them back
+pub second-transaction : run next (events.issued program (pos 100)) sales .purse .value ≡ pos 75
+unfolding replies sales
+second-transaction = refl
+
+-- and the books say the same
+pub sales-booked : books sales
+    ≡ record { value = pos 75; allowance = 25; log = (0xAA ∷ 0 ∷ 0 ∷ 0 ∷ 0 ∷ 0 ∷ 0 ∷ 0 ∷ 0 ∷ 0 ∷ 0 ∷ 0 ∷ 0 ∷ 0 ∷ 0 ∷ 0xBB ∷ []) ∷ [] }
+unfolding books sales
+sales-booked = refl

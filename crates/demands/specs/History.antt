@@ -1,0 +1,90 @@
+-- Histories of a card: the events, what the card answers to each, and what became of each.
+use Prim.Native.Nat.{ℕ}
+use mathlib.Core.Bool.{true}
+use mathlib.Core.List.{List, [], _∷_}
+use mathlib.Core.Path.{_≡_}
+use lib.Dec.{eqb}
+use Rattle.tables.specs.Choice.{pick}
+use Rattle.access.specs.declared.Session.{Session}
+use Rattle.access.specs.Rights.{sessionSound}
+use Rattle.frames.specs.Frame.{insOf, dataOf, fileOf, offsetOf, bytesIn, amountOf}
+use Rattle.commands.specs.Table.{writeData, credit, debit, limitedCredit, writeRecord, clearRecordFile, commitTransaction, abortTransaction}
+use Rattle.commands.specs.State.{State}
+use Rattle.commands.specs.Rows.{ok, statusOf}
+use Rattle.card.specs.declared.Card.{Card}
+use Rattle.card.specs.View.{view}
+use Rattle.card.specs.Outcome.{Outcome, replyOf}
+use Rattle.card.specs.Events.{commanded, sessionChanged, poweredUp}
+use Rattle.demands.specs.Strike.{Line, posted, closed, broken, idle}
+use Rattle.demands.specs.Books.{Op, paid-in, paid-out, rebooked, entered, cleared, Books}
+use Rattle.demands.specs.DataFiles.{Write}
+
+-- a bench refusal is no part of a history: a command comes with room for its reply, a session change names a key 0 to 4 or none
+pub data Event : Type 0 where
+  -- a frame: any bytes
+  command : List ℕ → Event
+  session : (k : Session) → sessionSound k ≡ true → Event
+  power : Event
+
+-- what the definitions of demand 2 answer
+unfoldable pub outcome : Card → Event → Outcome
+outcome c (command f) = commanded c f 258
+outcome c (session k known) = sessionChanged c k
+outcome c power = poweredUp c
+
+abbrev pub next : Card → Event → Card
+next c e = outcome c e .card
+
+-- all that is seen of an event: the bench refusal's number or 0, the reply's bytes, its length
+pub record Said : Type 0 where
+  pub refusal : ℕ
+  pub bytes : List ℕ
+  pub len : ℕ
+
+unfoldable pub said : Card → Event → Said
+said c e = record { refusal = outcome c e .refusal; bytes = outcome c e .out; len = replyOf (outcome c e) .len }
+
+-- ---- runs of any machine
+
+module _ {S E : Type 0} (step : S → E → S) where
+  -- where a run ends
+  unfoldable pub run : S → List E → S
+  run s [] = s
+  run s (e ∷ es) = run (step s e) es
+
+  -- what is noted of each event on the way
+  unfoldable pub along : {L : Type 0} → (S → E → L) → S → List E → List L
+  along f s [] = []
+  along f s (e ∷ es) = f s e ∷ along f (step s e) es
+
+-- ---- what became of each event
+
+-- an accepted command, for the books
+unfoldable pub bookLine : ℕ → List ℕ → Line Op
+bookLine i d =
+    pick (eqb i credit) (posted (paid-in (amountOf d)))
+    (pick (eqb i debit) (posted (paid-out (amountOf d)))
+    (pick (eqb i limitedCredit) (posted (rebooked (amountOf d)))
+    (pick (eqb i writeRecord) (posted (entered (offsetOf d) (bytesIn d)))
+    (pick (eqb i clearRecordFile) (posted cleared)
+    (pick (eqb i commitTransaction) closed
+    (pick (eqb i abortTransaction) broken
+    idle))))))
+
+-- an accepted command, for the data files
+unfoldable pub fileLine : ℕ → List ℕ → Line Write
+fileLine i d = pick (eqb i writeData) (posted (record { file = fileOf d; place = offsetOf d; bytes = bytesIn d })) idle
+
+-- any event: a refused command and a power-up break off, a session change does not
+unfoldable pub lineBy : {X : Type 0} → (ℕ → List ℕ → Line X) → State → Event → Line X
+lineBy acceptedLine s (command f) = pick (eqb (statusOf (s .core) f) ok) (acceptedLine (insOf f) (dataOf f)) broken
+lineBy acceptedLine s (session k known) = idle
+lineBy acceptedLine s power = broken
+
+-- the lines of a history from the card c on
+unfoldable pub traced : {X : Type 0} → (ℕ → List ℕ → Line X) → Card → List Event → List (Line X)
+traced acceptedLine = along next (λ c e. lineBy acceptedLine (view c) e)
+
+-- what a state holds for good
+abbrev pub booksOf : State → Books
+booksOf s = record { value = s .core .purse .value; allowance = s .core .purse .allowance; log = s .core .journal .entries }

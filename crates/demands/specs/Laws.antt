@@ -1,0 +1,12 @@
+-- What the proofs go through, lowest first.
+pub mod Names
+pub mod Sound
+pub mod Steps
+pub mod Inside
+pub mod Induct
+pub mod Posting
+pub mod Opened
+pub mod Booked
+pub mod Filed
+pub mod FirstRow
+pub mod Issued

@@ -1,0 +1,96 @@
+-- A card's data files are all accepted writes in order.
+use Prim.Native.Nat.{ℕ, _+_, _≤_}
+use mathlib.Core.Bool.{Bool, true, false, _||_, false≢true}
+use mathlib.Core.List.{List, [], _∷_}
+use mathlib.Core.Path.{_≡_, refl, sym, _∙_, ap, subst}
+use native.Mathlib.Omega.{arith}
+use borrow.Author.Tests.{eqb-true}
+use lib.Dec.{eqb}
+use lib.ListN.{length}
+use Rattle.tables.specs.Choice.{pick}
+use Rattle.wire.specs.Laws.{laid-room}
+use Rattle.datafiles.specs.declared.Files.{Files}
+use Rattle.datafiles.specs.Files as files
+use Rattle.frames.specs.Frame.{insOf, dataOf, fileOf, offsetOf, bytesIn}
+use Rattle.commands.specs.Table.{writeData, isData}
+use Rattle.commands.specs.State.{State}
+use Rattle.commands.specs.Rows.{ok, statusOf, commandStatus}
+use Rattle.commands.specs.Laws.{command-ok}
+use Rattle.effects.specs.Effects.{filesAfter, changed}
+use Rattle.card.specs.Events.{ended, refused, accepted, played, withSession}
+use Rattle.demands.specs.Strike.{Line, posted, broken, idle, posts, through}
+use Rattle.demands.specs.DataFiles.{Write, stored}
+use Rattle.demands.specs.History.{Event, command, session, power, run, along, fileLine, lineBy}
+use Rattle.demands.specs.Laws.Sound.{Sound, Sized}
+use Rattle.demands.specs.Laws.Steps.{plays, moves, moves-sound}
+use Rattle.demands.specs.Laws.Inside.{write-room, write-file}
+
+-- what holds of the three files' numbers
+by-file : (P : ℕ → Type 0) → P 0x00 → P 0x04 → P 0x1F → (n : ℕ) → isData n ≡ true → P n
+by-file P p q r n = at-00 (eqb n 0x00) refl
+  where
+    is : (k : ℕ) → P k → eqb n k ≡ true → P n
+    is k p e = subst P (sym (eqb-true n k e)) p
+
+    at-1f : (b : Bool) → eqb n 0x1F ≡ b → b ≡ true → P n
+    at-1f true e t = is 0x1F r e
+    at-1f false e t = absurd (false≢true t)
+
+    at-04 : (b : Bool) → eqb n 0x04 ≡ b → (b || eqb n 0x1F) ≡ true → P n
+    at-04 true e t = is 0x04 q e
+    at-04 false e t = at-1f (eqb n 0x1F) refl t
+
+    at-00 : (b : Bool) → eqb n 0x00 ≡ b → ((b || eqb n 0x04) || eqb n 0x1F) ≡ true → P n
+    at-00 true e t = is 0x00 p e
+    at-00 false e t = at-04 (eqb n 0x04) refl t
+
+module _ (f : Files) (h : Sized f) (at : ℕ) (x : List ℕ) where
+  written-stored : (n : ℕ) → isData n ≡ true → at + length x ≤ files.sizeOf n → files.written f n at x ≡ stored f (record { file = n; place = at; bytes = x })
+  unfolding files.written files.sizeOf stored pick
+  written-stored =
+      by-file (λ n. at + length x ≤ files.sizeOf n → files.written f n at x ≡ stored f (record { file = n; place = at; bytes = x }))
+      (λ r. ap (λ (b : List ℕ). record { f00 = b; f04 = f .f04; f1f = f .f1f }) (laid-room (f .f00) at x (omega (arith, h .f00))))
+      (λ r. ap (λ (b : List ℕ). record { f00 = f .f00; f04 = b; f1f = f .f1f }) (laid-room (f .f04) at x (omega (arith, h .f04))))
+      (λ r. ap (λ (b : List ℕ). record { f00 = f .f00; f04 = f .f04; f1f = b }) (laid-room (f .f1f) at x (omega (arith, h .f1f))))
+
+-- ---- one event
+
+-- the files after it are those before with its line's write, if it has one
+abbrev Stores : Files → Line Write → Files → Type 0
+Stores f l g = (ls : List (Line Write)) → through stored g (posts ls) ≡ through stored f (posts (l ∷ ls))
+
+stores-write : (s : State) → Sound s → (d : List ℕ) → commandStatus (s .core) writeData d ≡ ok
+    → Stores (s .files) (posted (record { file = fileOf d; place = offsetOf d; bytes = bytesIn d })) (files.written (s .files) (fileOf d) (offsetOf d) (bytesIn d))
+unfolding posts through
+stores-write s h d e ls = ap (λ (x : Files). through stored x (posts ls)) (written-stored (s .files) (h .files) (offsetOf d) (bytesIn d) (fileOf d) (write-file (s .core) d e) (write-room (s .core) d e))
+
+stores-changed : (s : State) → Sound s → (i : ℕ) (d : List ℕ) → commandStatus (s .core) i d ≡ ok → Stores (s .files) (fileLine i d) (filesAfter i d (s .files))
+unfolding fileLine filesAfter
+stores-changed s h i d e = by (eqb i writeData) refl
+  where
+    by : (b : Bool) → eqb i writeData ≡ b
+        → Stores (s .files) (pick b (posted (record { file = fileOf d; place = offsetOf d; bytes = bytesIn d })) idle) (pick b (files.written (s .files) (fileOf d) (offsetOf d) (bytesIn d)) (s .files))
+    by true q = unfold pick in stores-write s h d (subst (λ (k : ℕ). commandStatus (s .core) k d ≡ ok) (eqb-true i writeData q) e)
+    by false q = unfold pick posts through in λ ls. refl
+
+stores-played : (s : State) → Sound s → (f : List ℕ) → Stores (s .files) (lineBy fileLine s (command f)) (played s f .state .files)
+unfolding played refused accepted lineBy ended changed
+stores-played s h f = by (eqb (statusOf (s .core) f) ok) refl
+  where
+    by : (b : Bool) → eqb (statusOf (s .core) f) ok ≡ b
+        → Stores (s .files) (pick b (fileLine (insOf f) (dataOf f)) broken) (pick b (accepted s (insOf f) (dataOf f)) (refused s (statusOf (s .core) f)) .state .files)
+    by true e = unfold pick in stores-changed s h (insOf f) (dataOf f) (command-ok (s .core) f (eqb-true _ _ e))
+    by false e = unfold pick posts in λ ls. refl
+
+stores : (s : State) → Sound s → (e : Event) → Stores (s .files) (lineBy fileLine s e) (moves s e .files)
+unfolding plays
+stores s h (command f) = stores-played s h f
+stores s h (session k known) = unfold lineBy withSession posts in λ ls. refl
+stores s h power = unfold lineBy ended posts in λ ls. refl
+
+-- ---- any history
+
+pub files-law : (s : State) → Sound s → (es : List Event) → run moves s es .files ≡ through stored (s .files) (posts (along moves (lineBy fileLine) s es))
+unfolding run along
+files-law s h [] = unfold posts through in refl
+files-law s h (e ∷ es) = files-law (moves s e) (moves-sound s e h) es ∙ stores s h e (along moves (lineBy fileLine) (moves s e) es)

@@ -1,0 +1,56 @@
+-- An accepted write has room: in the new entry, or in its data file.
+use Prim.Native.Nat.{ℕ, _+_, _≤_}
+use mathlib.Core.Bool.{Bool, true, false, not, _||_}
+use mathlib.Core.List.{List}
+use mathlib.Core.Path.{_≡_, refl}
+use native.Mathlib.Omega.{arith}
+use borrow.Author.Tests.{not-false, eqb-true, ltb-false}
+use lib.Dec.{eqb, leb}
+use lib.ListN.{length}
+use Rattle.tables.specs.Choice.{or-no, none}
+use Rattle.wire.specs.Bytes.{outsideOf}
+use Rattle.wire.specs.Laws.{length-part}
+use Rattle.datafiles.specs.Files.{sizeOf}
+use Rattle.frames.specs.Frame.{fileOf, offsetOf, lengthOf, bytesIn}
+use Rattle.commands.specs.Table.{writeData, writeRecord, isData, onFile, suits}
+use Rattle.commands.specs.State.{Core, accessTo}
+use Rattle.commands.specs.Rows.{lengthCases, wrongLength, otherKindOrNever, rowsOf, ok, commandStatus}
+use Rattle.commands.specs.Laws.{command-clear, inside, write-inside, entry-inside}
+
+not-outside : (size off len : ℕ) → outsideOf size off len ≡ false → off + len ≤ size
+unfolding outsideOf
+not-outside size off len e = ltb-false size (off + len) (or-no (leb size off) _ e .1)
+
+-- the length field is the number of bytes sent
+sent : (d : List ℕ) → eqb (length d) (lengthOf d + 7) ≡ true → length (bytesIn d) ≡ lengthOf d
+sent d e = let q = eqb-true (length d) (lengthOf d + 7) e in let l = length-part d 7 (length d) (omega arith) in omega arith
+
+or-false-false : (a : Bool) → ((a || false) || false) ≡ true → a ≡ true
+or-false-false true e = refl
+or-false-false false e = e
+
+module _ (c : Core) (d : List ℕ) where
+  pub entry-room : commandStatus c writeRecord d ≡ ok → offsetOf d + length (bytesIn d) ≤ 16
+  unfolding rowsOf lengthCases
+  entry-room e =
+      let w : wrongLength writeRecord d ≡ false = search (command-clear c writeRecord d e) in
+      let n : not (eqb (length d) (lengthOf d + 7)) ≡ false = search (none (lengthCases writeRecord d) w) in
+      let l = sent d (not-false _ n) in
+      let o = not-outside _ _ _ (entry-inside _ _ _ d (inside c writeRecord d e)) in
+      omega arith
+
+  pub write-room : commandStatus c writeData d ≡ ok → offsetOf d + length (bytesIn d) ≤ sizeOf (fileOf d)
+  unfolding rowsOf lengthCases
+  write-room e =
+      let w : wrongLength writeData d ≡ false = search (command-clear c writeData d e) in
+      let n : not (eqb (length d) (lengthOf d + 7)) ≡ false = search (none (lengthCases writeData d) w) in
+      let l = sent d (not-false _ n) in
+      let o = not-outside _ _ _ (write-inside _ _ _ d (inside c writeData d e)) in
+      omega arith
+
+  pub write-file : commandStatus c writeData d ≡ ok → isData (fileOf d) ≡ true
+  unfolding rowsOf otherKindOrNever onFile suits
+  write-file e =
+      let w : otherKindOrNever writeData (fileOf d) (accessTo (c .settings) (c .session) writeData (fileOf d)) ≡ false = search (command-clear c writeData d e) in
+      let t : suits writeData (fileOf d) ≡ true = not-false _ (or-no (not (suits writeData (fileOf d))) _ w .0) in
+      or-false-false _ t

@@ -1,0 +1,50 @@
+-- The card of an accepted personalisation: it keeps the rules, nothing is pending, and its books hold the starting value alone.
+use mathlib.Core.Bool.{false, not}
+use mathlib.Core.List.{List, [], _∷_}
+use mathlib.Core.Path.{_≡_, refl}
+use native.Mathlib.Omega.{arith}
+use borrow.Author.Tests.{not-false}
+use lib.IntN.{ℤ}
+use Rattle.tables.specs.Reasons.{Reason, _when_, no-reason}
+use Rattle.datafiles.specs.Files as files
+use Rattle.purse.specs.Purse as purse
+use Rattle.purse.specs.Laws as purse-laws
+use Rattle.logbook.specs.View as log
+use Rattle.logbook.specs.Journal as journal
+use Rattle.logbook.specs.Laws as logbook
+use Rattle.commands.specs.declared.Settings.{Settings}
+use Rattle.commands.specs.State.{rightsBroken}
+use Rattle.card.specs.View.{view}
+use Rattle.card.specs.Rules.{brokenBy}
+use Rattle.card.specs.Events.{issued, orderRefusal}
+use Rattle.demands.specs.History.{booksOf}
+use Rattle.demands.specs.Demands.{Kept, Taken}
+use Rattle.demands.specs.Laws.Steps.{sound-view}
+use Rattle.demands.specs.Laws.Opened.{purse-rests, log-rests}
+use Rattle.demands.specs.Laws.Booked.{Open}
+
+module _ (s : Settings) (v : ℤ) (e : Taken s v) where
+  reasons : List Reason
+  reasons = (1 when rightsBroken s) ∷ (2 when purse.crossed (s .limits)) ∷ (3 when not (purse.within (s .limits) v)) ∷ []
+
+  pub issued-kept : Kept (issued s v)
+  unfolding issued orderRefusal reasons brokenBy log.broken log.empty files.zeros journal.blank
+  issued-kept =
+      let n = no-reason reasons 0 refl e in
+      let figures = purse-laws.resting-sound (s .limits) v 0 false (not-false _ (n .1 .1 .0)) (omega arith) in
+      record {
+        rules = simp (n .0, n .1 .0, purse-laws.unbroken figures);
+        f00 = refl;
+        f04 = refl;
+        f1f = refl;
+        slots = refl;
+        entry = refl;
+      }
+
+  pub issued-open : Open (view (issued s v)) []
+  unfolding view issued
+  issued-open = record { sound = sound-view (issued s v) issued-kept; value = purse-rests v 0; entries = rw logbook.view-empty (log-rests []) }
+
+  pub issued-books : booksOf (view (issued s v)) ≡ record { value = v; allowance = 0; log = [] }
+  unfolding view issued purse.resting log.view log.empty log.cut
+  issued-books = refl

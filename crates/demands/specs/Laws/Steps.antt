@@ -1,0 +1,131 @@
+-- The same history on cards and on the states that they stand for.
+use Prim.Native.Nat.{ℕ}
+use mathlib.Core.Bool.{Bool, true, false}
+use mathlib.Core.List.{List, [], _∷_}
+use mathlib.Core.Path.{_≡_, refl, sym, _∙_, ap}
+use native.Mathlib.Omega.{arith}
+use borrow.Author.Tests.{not-false, le-ltb, eqb-true}
+use lib.Dec.{eqb, ltb}
+use lib.ListN.{length}
+use Rattle.tables.specs.Choice.{pick, pick-cases, passed, none, not-no, or-no, or-none}
+use Rattle.wire.specs.Laws.{length-laid}
+use Rattle.purse.specs.Laws as purse-laws
+use Rattle.logbook.specs.declared.Log.{Log}
+use Rattle.logbook.specs.Journal.{Journal, joined}
+use Rattle.logbook.specs.View as log
+use Rattle.logbook.specs.Laws as logbook
+use Rattle.logbook.specs.FitLaws.{fit-view, joined-room}
+use Rattle.commands.specs.State.{State, logPending}
+use Rattle.commands.specs.Rows.{ok, statusOf}
+use Rattle.commands.specs.Laws.{command-ok}
+use Rattle.card.specs.declared.Card.{Card}
+use Rattle.card.specs.View.{view, put}
+use Rattle.card.specs.Rules.{rules, brokenBy}
+use Rattle.card.specs.Outcome.{Outcome}
+use Rattle.card.specs.Events.{Played, ended, refused, accepted, played, laidInto, withSession, sessionChanged, poweredUp}
+use Rattle.card.specs.Laws.{pending-view, command-plays}
+use Rattle.demands.specs.History.{Event, command, session, power, outcome, next, run, along}
+use Rattle.demands.specs.Demands.{Kept}
+use Rattle.demands.specs.Laws.Sound.{Sound, fresh-sized, changed-sound, ended-sound, session-sound}
+
+-- ---- a card that keeps the rules stands for a sound state
+
+some-view : (l : Log) → log.some (log.view l .fresh) ≡ l .adds
+unfolding log.view log.some pick
+some-view l = by (l .adds)
+  where
+    by : (b : Bool) → log.some (pick b (l .entry ∷ []) []) ≡ b
+    by true = refl
+    by false = refl
+
+pub sound-view : (c : Card) → Kept c → Sound (view c)
+unfolding view brokenBy log.view log.broken
+sound-view c h =
+    let n = none (rules (c .settings) (c .purse) (c .log) (c .session)) (h .rules) in
+    record {
+      rights = n .0;
+      limits = n .1 .0;
+      session = not-false _ (n .1 .1 .0);
+      figures = rw (pending-view (c .log)) (purse-laws.sound (n .1 .1 .1 .1 .0));
+      journal = fit-view (c .log) (n .1 .1 .1 .0) (h .slots) (h .entry);
+      apart = rw (some-view (c .log)) (or-no (ltb 4 (c .log .count)) _ (n .1 .1 .1 .0) .1);
+      files = record { f00 = h .f00; f04 = h .f04; f1f = h .f1f };
+    }
+
+-- a sound state, laid into a card, is a card that keeps the rules and stands for that state
+
+pub put-kept : (c : Card) (s : State) → Kept c → Sound s → Kept (put c s)
+unfolding put brokenBy log.put log.broken logPending
+put-kept c s k h =
+    let room = joined-room (s .core .journal) (h .journal) in
+    record {
+      rules = simp (h .rights, h .limits, h .session, or-none _ _ (le-ltb 4 (length (s .core .journal .entries)) (h .journal .few)) (h .apart), purse-laws.unbroken (h .figures));
+      f00 = h .files .f00;
+      f04 = h .files .f04;
+      f1f = h .files .f1f;
+      slots = length-laid (c .log .slots) 0 (joined (s .core .journal .entries)) (omega (arith, k .slots)) ∙ k .slots;
+      entry = fresh-sized (c .log .entry) (s .core .journal .fresh) (k .entry) (h .journal .fresh-sized);
+    }
+
+pub view-put : (c : Card) (s : State) → Sound s → view (put c s) ≡ s
+unfolding view put
+view-put c s h = ap (λ (j : Journal). record { core = record { settings = s .core .settings; purse = s .core .purse; journal = j; session = s .core .session }; files = s .files }) (logbook.view-put (c .log) (s .core .journal) (h .journal))
+
+-- ---- an event on a state
+
+unfoldable pub plays : State → Event → Played
+plays s (command f) = played s f
+plays s (session k known) = record { state = withSession s k; out = [] }
+plays s power = record { state = ended s; out = [] }
+
+abbrev pub moves : State → Event → State
+moves s e = plays s e .state
+
+pub outcome-plays : (c : Card) → Kept c → (e : Event) → outcome c e ≡ laidInto c (plays (view c) e)
+unfolding outcome plays sessionChanged poweredUp
+outcome-plays c h (command f) = sym (command-plays c f 258 (omega arith) (h .rules))
+outcome-plays c h (session k known) = passed _ _ (not-no _ known) ∙ passed _ _ (h .rules)
+outcome-plays c h power = passed _ _ (h .rules)
+
+played-sound : (s : State) (f : List ℕ) → Sound s → Sound (played s f .state)
+unfolding played refused accepted
+played-sound s f h = pick-cases (λ (p : Played). Sound (p .state)) (eqb (statusOf (s .core) f) ok) _ _ (λ e. changed-sound s _ _ h (command-ok (s .core) f (eqb-true _ _ e))) (λ e. ended-sound s h)
+
+pub moves-sound : (s : State) (e : Event) → Sound s → Sound (moves s e)
+unfolding plays
+moves-sound s (command f) h = played-sound s f h
+moves-sound s (session k known) h = session-sound s k h known
+moves-sound s power h = ended-sound s h
+
+-- ---- on the card
+
+next-put : (c : Card) → Kept c → (e : Event) → next c e ≡ put c (moves (view c) e)
+unfolding laidInto
+next-put c h e = ap (λ (o : Outcome). o .card) (outcome-plays c h e)
+
+pub next-kept : (c : Card) → Kept c → (e : Event) → Kept (next c e)
+next-kept c h e = rw (next-put c h e) (put-kept c (moves (view c) e) h (moves-sound (view c) e (sound-view c h)))
+
+pub view-next : (c : Card) → Kept c → (e : Event) → view (next c e) ≡ moves (view c) e
+view-next c h e = ap view (next-put c h e) ∙ view-put c (moves (view c) e) (moves-sound (view c) e (sound-view c h))
+
+-- ---- and a history
+
+pub run-kept : (c : Card) → Kept c → (es : List Event) → Kept (run next c es)
+unfolding run
+run-kept c h [] = h
+run-kept c h (e ∷ es) = run-kept (next c e) (next-kept c h e) es
+
+pub view-run : (c : Card) → Kept c → (es : List Event) → view (run next c es) ≡ run moves (view c) es
+unfolding run
+view-run c h [] = refl
+view-run c h (e ∷ es) = view-run (next c e) (next-kept c h e) es ∙ ap (λ (s : State). run moves s es) (view-next c h e)
+
+-- what is noted of each event on the card is what is noted on the state
+pub along-views : {L : Type 0} (f : Card → Event → L) (g : State → Event → L) → ((c : Card) → Kept c → (e : Event) → f c e ≡ g (view c) e)
+    → (c : Card) → Kept c → (es : List Event) → along next f c es ≡ along moves g (view c) es
+unfolding along
+along-views f g same c h [] = refl
+along-views f g same c h (e ∷ es) =
+    let rest = along-views f g same (next c e) (next-kept c h e) es in
+    rw (same c h e, rest, view-next c h e)

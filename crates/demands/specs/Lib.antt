@@ -1,0 +1,10 @@
+pub mod Strike
+pub mod Books
+pub mod DataFiles
+pub mod History
+pub mod Calls
+pub mod Demands
+pub mod Examples
+pub mod Laws
+pub mod Proofs
+pub mod Unseen

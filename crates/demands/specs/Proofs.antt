@@ -1,0 +1,5 @@
+-- The theorems: what Demands states.
+pub mod Demand1
+pub mod Demand2
+pub mod Demand3
+pub mod InCode
