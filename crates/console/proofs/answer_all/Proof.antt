@@ -1,0 +1,58 @@
+use Prim.Native.Nat.{_≤_, _-_}
+use lib.ListN.{length}
+use borrow.Author.Needs.{needs}
+use Rattle.console.proofs.answer_all.Statement.{statement}
+use Rattle.console.proofs.answer_all.Tie as tie
+
+abbrev Inv-loop : tie.InvT-loop
+Inv-loop text desk₀ at₀ desk at = at ≤ length text
+
+abbrev μ-loop : tie.MeasureT-loop
+μ-loop text desk₀ at₀ desk at = length text - at
+
+loop-holds : tie.Need-loop-holds Inv-loop μ-loop
+loop-holds c = search needs
+
+sub-answer-some : tie.Need-sub-answer-some Inv-loop μ-loop
+sub-answer-some c = search needs
+
+part-answer-some-start : tie.Need-part-answer-some-start Inv-loop μ-loop
+part-answer-some-start c = search needs
+
+part-answer-some-end : tie.Need-part-answer-some-end Inv-loop μ-loop
+part-answer-some-end c = search needs
+
+answer-some-requires : tie.Need-answer-some-requires Inv-loop μ-loop
+answer-some-requires c κs = search needs
+
+returns : tie.Need-returns Inv-loop μ-loop
+returns c = search needs
+
+add-at : tie.Need-add-at Inv-loop μ-loop
+add-at c = search needs
+
+loop-less : tie.Need-loop-less Inv-loop μ-loop
+loop-less c = search needs
+
+loop-again : tie.Need-loop-again Inv-loop μ-loop
+loop-again c = search needs
+
+returns-2 : tie.Need-returns-2 Inv-loop μ-loop
+returns-2 c = search needs
+
+pub answer-all-spec : {M : Type 1} → statement M
+answer-all-spec =
+    tie.close
+    (tie.spec
+    Inv-loop
+    μ-loop
+    loop-holds
+    sub-answer-some
+    part-answer-some-start
+    part-answer-some-end
+    answer-some-requires
+    returns
+    add-at
+    loop-less
+    loop-again
+    returns-2)

@@ -1,0 +1,55 @@
+use mathlib.Core.Path.{_≡_}
+use Prim.Native.Nat.{_≤_}
+use lib.ListN.{length}
+use borrow.Author.Needs.{needs}
+use Rattle.console.proofs.serve.Statement.{statement}
+use Rattle.console.proofs.serve.Tie as tie
+
+abbrev Inv-loop : tie.InvT-loop
+Inv-loop buf₀ desk₀ held₀ turns₀ buf desk held turns = (length buf ≡ 65536) × (held ≤ 1025)
+
+abbrev μ-loop : tie.MeasureT-loop
+μ-loop buf₀ desk₀ held₀ turns₀ buf desk held turns = turns
+
+large-buffer-requires : tie.Need-large-buffer-requires Inv-loop μ-loop
+large-buffer-requires c κs = search needs
+
+loop-holds : tie.Need-loop-holds Inv-loop μ-loop
+loop-holds c = search needs
+
+slice-aggregate-serve-block : tie.Need-slice-aggregate-serve-block Inv-loop μ-loop
+slice-aggregate-serve-block c = search needs
+
+serve-block-requires : tie.Need-serve-block-requires Inv-loop μ-loop
+serve-block-requires c κs = search needs
+
+returns : tie.Need-returns Inv-loop μ-loop
+returns c = search needs
+
+sub-turns : tie.Need-sub-turns Inv-loop μ-loop
+sub-turns c = search needs
+
+loop-less : tie.Need-loop-less Inv-loop μ-loop
+loop-less c = search needs
+
+loop-again : tie.Need-loop-again Inv-loop μ-loop
+loop-again c = search needs
+
+returns-2 : tie.Need-returns-2 Inv-loop μ-loop
+returns-2 c = search needs
+
+pub serve-spec : {M : Type 1} → statement M
+serve-spec =
+    tie.close
+    (tie.spec
+    Inv-loop
+    μ-loop
+    large-buffer-requires
+    loop-holds
+    slice-aggregate-serve-block
+    serve-block-requires
+    returns
+    sub-turns
+    loop-less
+    loop-again
+    returns-2)

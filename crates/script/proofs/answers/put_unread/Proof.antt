@@ -1,0 +1,21 @@
+use Rattle.script.specs.Laws.{shows-laid}
+use native.Mathlib.Omega.{arith}
+use mathlib.Core.Path.{refl}
+use borrow.Author.Needs.{needs}
+use Rattle.script.proofs.answers.put_unread.Statement.{statement}
+use Rattle.script.proofs.answers.put_unread.Tie as tie
+
+slice-aggregate-lay : tie.Need-slice-aggregate-lay
+slice-aggregate-lay c = search needs
+
+lay-requires : tie.Need-lay-requires
+lay-requires c κs = search needs
+
+same-length : tie.Need-same-length
+same-length c = search needs
+
+returns : tie.Need-returns
+returns c = shows-laid _ _ _ _ refl (omega arith) (c .before .before .lay .ensures)
+
+pub put-unread-spec : {M : Type 1} → statement M
+put-unread-spec = tie.close (tie.spec slice-aggregate-lay lay-requires same-length returns)
