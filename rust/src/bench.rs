@@ -1,0 +1,374 @@
+//! The bench: one line in, one answer line out.
+//!
+//! | Line | Does | Prints |
+//! |---|---|---|
+//! | hexadecimal digits, an even number, at least two | a command | the reply, or `!5` |
+//! | empty | a power-up | an empty line |
+//! | `P` and 46 digits | personalises a card | `!0`, or `!1` to `!3` beside the blank card |
+//! | `S` and 2 digits, or `S` | a session change, or no session | `!0` or `!4` |
+//! | `R` and 4 digits | the length of the reply buffer, at most 0200h | `!0` |
+//! | `B` | nothing | the books |
+//! | any other, or more than 1,024 characters | nothing | `?` |
+
+use crate::model::{BenchRefusal, Card, Personalisation, REPLY_ROOM};
+use std::io::Write;
+
+/// The most characters a line may have.
+pub const LONGEST_LINE: usize = 1024;
+/// The longest reply buffer an `R` line may lend.
+pub const LONGEST_ROOM: usize = 0x200;
+/// Bytes that follow the `P` of a personalisation line.
+pub const PERSONALISATION_BYTES: usize = 23;
+
+/// The bench with the card it holds.
+#[derive(Clone, Debug)]
+pub struct Bench {
+    card: Card,
+    /// The reply buffer lent to commands.
+    reply: Vec<u8>,
+    /// The bytes of the line at hand.
+    bytes: Vec<u8>,
+}
+
+impl Default for Bench {
+    fn default() -> Self {
+        Self::new()
+    }
+}
+
+impl Bench {
+    /// A bench that holds the program's card and lends 258 bytes.
+    pub fn new() -> Self {
+        Self {
+            card: Card::program_card(),
+            reply: vec![0; REPLY_ROOM],
+            bytes: Vec::with_capacity(LONGEST_LINE / 2),
+        }
+    }
+
+    /// The card held.
+    pub fn card(&self) -> &Card {
+        &self.card
+    }
+
+    /// The length of the reply buffer lent to commands.
+    pub fn room(&self) -> usize {
+        self.reply.len()
+    }
+
+    /// Takes one line, without its LF, and appends the answer line to `out`.
+    pub fn line(&mut self, line: &[u8], out: &mut Vec<u8>) {
+        if self.known_line(line, out).is_none() {
+            out.push(b'?');
+        }
+        out.push(b'\n');
+    }
+
+    /// None, with nothing done or appended, if the line is to print `?`.
+    fn known_line(&mut self, line: &[u8], out: &mut Vec<u8>) -> Option<()> {
+        if line.len() > LONGEST_LINE {
+            return None;
+        }
+        match line {
+            [] => self.card.power_up(),
+            b"B" => self.books(out),
+            b"S" => put_outcome(self.card.change_session(None), out),
+            [b'S', digits @ ..] => match self.decode(digits)? {
+                &[key] => put_outcome(self.card.change_session(Some(key)), out),
+                _ => return None,
+            },
+            [b'R', digits @ ..] => match self.decode(digits)? {
+                &[high, low] => {
+                    let room = usize::from(u16::from_be_bytes([high, low]));
+                    if room > LONGEST_ROOM {
+                        return None;
+                    }
+                    self.reply.resize(room, 0);
+                    put_outcome(Ok(()), out);
+                }
+                _ => return None,
+            },
+            [b'P', digits @ ..] => {
+                let bytes = self.decode(digits)?;
+                let with = personalisation(bytes.try_into().ok()?);
+                let (card, outcome) = match Card::personalise(&with) {
+                    Ok(card) => (card, Ok(())),
+                    Err(refusal) => (Card::blank(), Err(refusal)),
+                };
+                self.card = card;
+                put_outcome(outcome, out);
+            }
+            digits => {
+                self.decode(digits)?;
+                match self.card.command(&self.bytes, &mut self.reply) {
+                    Ok(length) => put_hex(&self.reply[..length], out),
+                    Err(refusal) => put_outcome(Err(refusal), out),
+                }
+            }
+        }
+        Some(())
+    }
+
+    /// The bytes of an even number of hexadecimal digits of either case.
+    fn decode(&mut self, digits: &[u8]) -> Option<&[u8]> {
+        if digits.len() % 2 != 0 {
+            return None;
+        }
+        self.bytes.clear();
+        for pair in digits.chunks_exact(2) {
+            self.bytes.push((digit(pair[0])? << 4) | digit(pair[1])?);
+        }
+        Some(&self.bytes)
+    }
+
+    /// The eight fields of the `B` line.
+    fn books(&self, out: &mut Vec<u8>) {
+        let books = self.card.books();
+        write!(
+            out,
+            "{} {} {} {} {} {} ",
+            books.value,
+            books.pending_value,
+            books.allowance,
+            books.pending_allowance,
+            books.debit_sum,
+            books.entries
+        )
+        .expect("a Vec takes every write");
+        let letters = [
+            (books.value_pending, b'v'),
+            (books.entry_pending, b'n'),
+            (books.clear_pending, b'c'),
+        ];
+        if letters.iter().any(|&(is_pending, _)| is_pending) {
+            out.extend(letters.iter().filter(|pair| pair.0).map(|pair| pair.1));
+        } else {
+            out.push(b'-');
+        }
+        match books.session {
+            Some(key) => write!(out, " {key}").expect("a Vec takes every write"),
+            None => out.extend_from_slice(b" -"),
+        }
+    }
+}
+
+/// The figures of a `P` line, least significant byte first.
+fn personalisation(bytes: &[u8; PERSONALISATION_BYTES]) -> Personalisation {
+    let word = |at: usize| u16::from_le_bytes([bytes[at], bytes[at + 1]]);
+    let figure =
+        |at: usize| i32::from_le_bytes([bytes[at], bytes[at + 1], bytes[at + 2], bytes[at + 3]]);
+    let switches = bytes[22];
+    Personalisation {
+        rights: [word(0), word(2), word(4), word(6), word(8)],
+        lower: figure(10),
+        upper: figure(14),
+        value: figure(18),
+        limited_credit: switches & 0x01 != 0,
+        free_get_value: switches & 0x02 != 0,
+    }
+}
+
+/// The figure of a hexadecimal digit of either case.
+fn digit(character: u8) -> Option<u8> {
+    match character {
+        b'0'..=b'9' => Some(character - b'0'),
+        b'A'..=b'F' => Some(character - b'A' + 10),
+        b'a'..=b'f' => Some(character - b'a' + 10),
+        _ => None,
+    }
+}
+
+/// Appends capital hexadecimal digits.
+pub fn put_hex(bytes: &[u8], out: &mut Vec<u8>) {
+    const DIGITS: &[u8; 16] = b"0123456789ABCDEF";
+    for byte in bytes {
+        out.push(DIGITS[usize::from(byte >> 4)]);
+        out.push(DIGITS[usize::from(byte & 0xF)]);
+    }
+}
+
+/// Appends `!` and the number of a bench refusal, or `!0`.
+fn put_outcome(outcome: Result<(), BenchRefusal>, out: &mut Vec<u8>) {
+    let number = match outcome {
+        Ok(()) => 0,
+        Err(refusal) => refusal.number(),
+    };
+    out.extend_from_slice(&[b'!', b'0' + number]);
+}
+
+/// A bench that is fed blocks of a stream of lines.
+#[derive(Clone, Debug, Default)]
+pub struct Stream {
+    bench: Bench,
+    /// The start of a line whose LF has not come yet, cut off after the first
+    /// character too many.
+    partial: Vec<u8>,
+}
+
+impl Stream {
+    /// A stream to a new bench.
+    pub fn new() -> Self {
+        Self::default()
+    }
+
+    /// Appends the answers to all lines that the block completes.
+    pub fn feed(&mut self, block: &[u8], out: &mut Vec<u8>) {
+        let mut rest = block;
+        while let Some(end) = rest.iter().position(|&byte| byte == b'\n') {
+            if self.partial.is_empty() {
+                self.bench.line(&rest[..end], out);
+            } else {
+                self.keep(&rest[..end]);
+                self.bench.line(&self.partial, out);
+                self.partial.clear();
+            }
+            rest = &rest[end + 1..];
+        }
+        self.keep(rest);
+    }
+
+    /// Appends the answer to a last line that lacks its LF.
+    pub fn finish(&mut self, out: &mut Vec<u8>) {
+        if !self.partial.is_empty() {
+            self.bench.line(&self.partial, out);
+            self.partial.clear();
+        }
+    }
+
+    fn keep(&mut self, characters: &[u8]) {
+        let room = LONGEST_LINE + 1 - self.partial.len();
+        self.partial
+            .extend_from_slice(&characters[..characters.len().min(room)]);
+    }
+}
+
+/// The answers of a new bench to a whole script.
+pub fn answers(script: &[u8]) -> Vec<u8> {
+    let mut out = Vec::new();
+    let mut stream = Stream::new();
+    stream.feed(script, &mut out);
+    stream.finish(&mut out);
+    out
+}
+
+#[cfg(test)]
+mod tests {
+    use super::*;
+
+    fn check(script: &str, expected: &str) {
+        let out = answers(script.as_bytes());
+        assert_eq!(String::from_utf8(out).unwrap(), expected);
+    }
+
+    #[test]
+    fn listing_of_the_paper() {
+        let input = "906C0000010300\n90DC000005031E00000000\n906C0000010300\n\
+                     90C7000000\n906C0000010300\n901C000005031F00000000\n\n906C0000010300\n";
+        let output = "640000009100\n9100\n640000009100\n\
+                      9100\n460000009100\n91BE\n\n460000009100\n";
+        check(input, output);
+        check(&input.to_lowercase(), output);
+        check(input.trim_end(), output);
+    }
+
+    #[test]
+    fn examples_p2_to_p12() {
+        check("806C0000010300", "6E00\n");
+        check("906C0100010300", "6A86\n");
+        check("906C0000010301", "6700\n");
+        check("90FF000000", "911C\n");
+        check("906C0000010700\n906C0000010000", "91F0\n919D\n");
+        check("900C000005038403000000", "9100\n");
+        check("900C000005038503000000", "91BE\n");
+        check("900C00000503FFFFFFFF00", "919E\n");
+        check("90AD00000700FF000001000000", "009100\n");
+        check("90AD0000070000010000000000", "91BE\n");
+        check(
+            "PEEEEEEEEEEEEEEEEEEEE00000000FFFFFF7FFFFFFF7F01\n900C000005030100000000",
+            "!0\n91BE\n",
+        );
+        check("90C7000000", "910C\n");
+        check(
+            "908B00000801000000010000AA00\n90C7000000\n90EB0000010100\n\
+             908B00000801000000010000BB00\n90AB0000070100000000000000",
+            "9100\n9100\n9100\n919D\nAA0000000000000000000000000000009100\n",
+        );
+    }
+
+    #[test]
+    fn books() {
+        check("B", "100 100 0 0 0 0 - -\n");
+        check(
+            "S03\n90DC000005031E00000000\n900C000005030500000000\nB\n90C7000000\n\
+             901C000005030A00000000\n908B00000801000000010000AA00\nB\n90EB0000010100\nB\n90C7000000\nB\n\nB",
+            "!0\n9100\n9100\n100 75 0 0 30 0 v 3\n9100\n\
+             9100\n9100\n75 85 30 20 0 0 vn 3\n9100\n75 85 30 20 0 0 vc 3\n9100\n85 85 20 20 0 0 - 3\n\n85 85 20 20 0 0 - -\n",
+        );
+    }
+
+    #[test]
+    fn personalisation_lines() {
+        let limits = "18FCFFFFFFFFFFFF9CFFFFFF";
+        check(
+            &format!("PEEEEEEEEEEEEEEEEEEEE{limits}FD\nB\n906C0000010300"),
+            "!0\n-100 -100 0 0 0 0 - -\n9CFFFFFF9100\n",
+        );
+        check(
+            &format!("PEEEEEEEEEEEEEEEEEE5E{limits}00\nB\n90C7000000\n906C0000010300"),
+            "!1\n0 0 0 0 0 0 - -\n910C\n919D\n",
+        );
+        check("PEEEEEEEEEEEEEEEEEEEE01000000000000000000000000", "!2\n");
+        check("PEEEEEEEEEEEEEEEEEEEE00000000010000000200000000", "!3\n");
+        check("PEEEEEEEEEEEEEEEEEEEE000000000100000002000000", "?\n");
+        check("PEEEEEEEEEEEEEEEEEEEE000000000100000002000000000", "?\n");
+        check("pEEEEEEEEEEEEEEEEEEEE00000000010000000200000000", "?\n");
+    }
+
+    #[test]
+    fn rights_words_are_least_significant_byte_first() {
+        // File 03h has the rights word E0F4h: Read free, Write key 0, ReadWrite never.
+        let personalise = "PEEEEEEEEEEEEF4E0EEEE00000000E80300006400000001";
+        check(
+            &format!("{personalise}\n906C0000010300\n900C000005030100000000\nS00\n901C000005030000000000"),
+            "!0\n640000009100\n919D\n!0\n9100\n",
+        );
+    }
+
+    #[test]
+    fn sessions_and_rooms() {
+        check(
+            "S04\nS05\nB\nSFF\nS\nB\nS4\nS004\ns04",
+            "!0\n!4\n100 100 0 0 0 0 - 4\n!4\n!0\n100 100 0 0 0 0 - -\n?\n?\n?\n",
+        );
+        check(
+            "R0101\n906C0000010300\nR0102\n906C0000010300\nR0200\nR0201\n906C0000010300\nR0000\n00\nR102",
+            "!0\n!5\n!0\n640000009100\n!0\n?\n640000009100\n!0\n!5\n?\n",
+        );
+    }
+
+    #[test]
+    fn other_lines() {
+        check(
+            "9\n90 6C\n906C0000010300\r\n\0\nB \nb\nBB\n",
+            "?\n?\n?\n?\n?\n?\n6700\n",
+        );
+        let long = "0".repeat(LONGEST_LINE);
+        check(&format!("{long}\n{long}0\n{long}00\n"), "6700\n?\n?\n");
+        check("", "");
+        check("\n", "\n");
+    }
+
+    #[test]
+    fn blocks_may_end_anywhere() {
+        let script = b"S04\n906C0000010300\n\nB\n90 \n906C0000010300";
+        let whole = answers(script);
+        for cut in 0..=script.len() {
+            let mut out = Vec::new();
+            let mut stream = Stream::new();
+            stream.feed(&script[..cut], &mut out);
+            stream.feed(&script[cut..], &mut out);
+            stream.finish(&mut out);
+            assert_eq!(out, whole);
+        }
+    }
+}
