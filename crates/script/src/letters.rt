@@ -55,7 +55,7 @@ fn settings_in(b: &[u8]) -> Settings
 }
 
 impl Desk {
-    pub fn say_unread(self, answer: &mut [u8]) -> Told
+    pub(crate) fn say_unread(self, answer: &mut [u8]) -> Told
         requires { ⌜ 1040 ≤ length (now answer) ⌝ }
         ensures { λ r. ⌜ Tells (unread self) (now (answer .entry)) (now (answer .exit)) r ⌝ }
     {
@@ -158,7 +158,13 @@ impl Desk {
     }
 
     // A letter and the characters behind it.
-    pub fn say_lettered(self, letter: u8, rest: &[u8], bytes: &mut [u8], answer: &mut [u8]) -> Told
+    pub(crate) fn say_lettered(
+        self,
+        letter: u8,
+        rest: &[u8],
+        bytes: &mut [u8],
+        answer: &mut [u8],
+    ) -> Told
         requires { ⌜ (length (now rest) ≤ 1024) × (512 ≤ length (now bytes)) × (1040 ≤ length (now answer)) ⌝ }
         ensures { λ r. ⌜ Tells (lettered self letter (now (rest .entry))) (now (answer .entry)) (now (answer .exit)) r ⌝ }
     {
