@@ -1,5 +1,5 @@
-//! An independent reference model of the card described by the rules paper
-//! `01-scope.md`, a bench that speaks to it in lines, and a generator of
+//! An independent reference model of the card described by the rules paper,
+//! a bench that speaks to it in lines, and a generator of
 //! scripts of such lines.
 //!
 //! * [`model`]: the card.

@@ -14,8 +14,9 @@ use Rattle.access.specs.declared.Session.{Session}
 use Rattle.access.specs.declared.Session.the-variants.{Nobody}
 use Rattle.access.specs.Rights.{sessionSound}
 use Rattle.frames.specs.Frame.{insOf, dataOf}
-use Rattle.commands.specs.declared.Settings.{Settings}
-use Rattle.commands.specs.State.{Core, State, rightsBroken}
+use Rattle.settings.specs.declared.Settings.{Settings}
+use Rattle.settings.specs.Settings.{rightsBroken}
+use Rattle.commands.specs.State.{Core, State}
 use Rattle.commands.specs.Rows.{ok, statusOf}
 use Rattle.effects.specs.Effects.{changed, shown}
 use Rattle.card.specs.declared.Card.{Card}

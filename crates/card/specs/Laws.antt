@@ -18,7 +18,7 @@ use Rattle.logbook.specs.FitLaws.{fit-view}
 use Rattle.access.specs.declared.Session.{Session}
 use Rattle.access.specs.Rights.{sessionSound}
 use Rattle.frames.specs.Frame.{insOf, dataOf}
-use Rattle.commands.specs.declared.Settings.{Settings}
+use Rattle.settings.specs.declared.Settings.{Settings}
 use Rattle.commands.specs.State.{State, logPending}
 use Rattle.commands.specs.Rows.{ok, statusOf, commandStatus}
 use Rattle.effects.specs.Effects.{changed, shown}

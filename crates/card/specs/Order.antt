@@ -8,7 +8,8 @@ use Rattle.tables.specs.Reasons.{Reason, _when_, first, NoReason, no-reason, fi
 use Rattle.wire.specs.Bytes.{part}
 use Rattle.access.specs.declared.Access.{Access}
 use Rattle.frames.specs.Frame.{insOf, dataStart, dataEnd, dataOf, fileOf, wrongSize, wrongClass, wrongParameters, wrongFrame}
-use Rattle.commands.specs.State.{Core, accessTo, logPending}
+use Rattle.settings.specs.Settings.{accessTo}
+use Rattle.commands.specs.State.{Core, logPending}
 use Rattle.commands.specs.Rows.{unknownCommand, wrongLength, unknownFile, otherKindOrNever, notGranted, switchedOff, badParameter, outside, nothingPending, rowsOf, ok, statusOf, commandStatus}
 
 -- places 1 to 4

@@ -9,8 +9,8 @@ use Rattle.logbook.specs.declared.Log.{Log}
 use Rattle.logbook.specs.View as log
 use Rattle.access.specs.declared.Session.{Session}
 use Rattle.access.specs.Rights.{sessionSound}
-use Rattle.commands.specs.declared.Settings.{Settings}
-use Rattle.commands.specs.State.{rightsBroken}
+use Rattle.settings.specs.declared.Settings.{Settings}
+use Rattle.settings.specs.Settings.{rightsBroken}
 use Rattle.card.specs.declared.Card.{Card}
 
 -- each says that a rule is broken: those behind bench refusals 1 and 2, the session's, the log's, the value file's

@@ -1,6 +1,6 @@
 -- The card as the program holds it, and the state that it stands for. They differ in the log alone.
 use Rattle.commands.specs.State.{Core, State}
-use Rattle.commands.specs.declared.Settings.{Settings}
+use Rattle.settings.specs.declared.Settings.{Settings}
 use Rattle.purse.specs.declared.Purse.{Purse}
 use Rattle.logbook.specs.declared.Log.{Log}
 use Rattle.logbook.specs.View as log

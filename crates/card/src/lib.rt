@@ -1,11 +1,11 @@
 // The card: personalisation, and the three events command, session change and power-up.
 use access::Session;
-use commands::Settings;
 use commands::rows;
 use datafiles::Files;
 use logbook::Log;
 use purse::Limits;
 use purse::Purse;
+use settings::Settings;
 ghost use mathlib.Core.Path.{_≡_};
 ghost use mathlib.Core.Bool.{false};
 ghost use Prim.Native.Nat.{_≤_};

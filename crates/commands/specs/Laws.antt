@@ -3,11 +3,11 @@ use Prim.Native.Nat.{ℕ}
 use mathlib.Core.Bool.{true, false, not}
 use mathlib.Core.List.{List, []}
 use mathlib.Core.Path.{_≡_, refl, sym, _∙_}
-use borrow.Author.Tests.{not-false, ltb-false}
+use borrow.Author.Tests.{not-false}
 use lib.ListN.{length, drop, take}
 use lib.IntN.{pos, _+ℤ_, _-ℤ_}
-use Rattle.tables.specs.Choice.{pick, none, or-no, passed}
-use Rattle.tables.specs.Reasons.{Reason, first, NoReason, no-reason, first-passes}
+use Rattle.tables.specs.Choice.{pick, none, or-no}
+use Rattle.tables.specs.Reasons.{NoReason, no-reason, first-passes}
 use Rattle.wire.specs.Bytes.{outsideOf}
 use Rattle.datafiles.specs.Files.{sizeOf}
 use Rattle.purse.specs.declared.Limits.{Limits}
@@ -15,7 +15,7 @@ use Rattle.purse.specs.declared.Purse.{Purse}
 use Rattle.purse.specs.Purse.{within}
 use Rattle.logbook.specs.Journal.{entrySize}
 use Rattle.frames.specs.Frame.{insOf, dataOf, fileOf, offsetOf, lengthOf, amountOf}
-use Rattle.commands.specs.Table.{readData, writeData, credit, debit, limitedCredit, readRecords, writeRecord, onData}
+use Rattle.columns.specs.Table.{readData, writeData, credit, debit, limitedCredit, readRecords, writeRecord}
 use Rattle.commands.specs.State.{Core}
 use Rattle.commands.specs.Rows.{ranged, roomOf, amountCases, outside, rowsOf, ok, statusOf, commandStatus}
 

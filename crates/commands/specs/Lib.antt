@@ -1,4 +1,3 @@
-pub mod Table
 pub mod State
 pub mod Rows
 pub mod Laws

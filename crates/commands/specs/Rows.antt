@@ -15,9 +15,10 @@ use Rattle.purse.specs.Purse.{within}
 use Rattle.logbook.specs.Journal.{entrySize}
 use Rattle.access.specs.declared.Access.{Access}
 use Rattle.access.specs.Rights.{isNever, isNotGranted}
-use Rattle.commands.specs.Table.{readData, writeData, getValue, credit, debit, limitedCredit, readRecords, writeRecord, clearRecordFile, commitTransaction, abortTransaction, onData, onFile, ends, isFile, suits}
+use Rattle.columns.specs.Table.{readData, writeData, getValue, credit, debit, limitedCredit, readRecords, writeRecord, clearRecordFile, commitTransaction, abortTransaction, onData, onFile, ends, isFile, suits}
 use Rattle.frames.specs.Frame.{insOf, dataOf, fileOf, offsetOf, lengthOf, amountOf, optionOf, wrongSize, wrongClass, wrongParameters, wrongFrame}
-use Rattle.commands.specs.State.{Core, accessTo, logPending}
+use Rattle.settings.specs.Settings.{accessTo}
+use Rattle.commands.specs.State.{Core, logPending}
 
 -- ---- places 5 to 13: the INS i with the data field d
 

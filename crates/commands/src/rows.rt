@@ -1,7 +1,6 @@
 // Places 5 to 13 of the order of checks: a test each, of an INS with its data field d.
-use super::columns;
-use super::table;
 use access::Access;
+use columns::table;
 use datafiles::Files;
 use logbook::Log;
 use purse::Limits;

@@ -12,7 +12,7 @@ use Rattle.wire.specs.Bytes.{laid, word}
 use Rattle.purse.specs.Purse.{within}
 use Rattle.access.specs.declared.Session.the-variants.{Nobody}
 use Rattle.frames.specs.Frame.{insOf, dataOf}
-use Rattle.commands.specs.declared.Settings.{Settings}
+use Rattle.settings.specs.declared.Settings.{Settings}
 use Rattle.commands.specs.Rows.{rowsOf, ok, statusOf}
 use Rattle.card.specs.declared.Card.{Card}
 use Rattle.card.specs.declared.Reply.{Reply}

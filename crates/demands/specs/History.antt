@@ -8,7 +8,7 @@ use Rattle.tables.specs.Choice.{pick}
 use Rattle.access.specs.declared.Session.{Session}
 use Rattle.access.specs.Rights.{sessionSound}
 use Rattle.frames.specs.Frame.{insOf, dataOf, fileOf, offsetOf, bytesIn, amountOf}
-use Rattle.commands.specs.Table.{writeData, credit, debit, limitedCredit, writeRecord, clearRecordFile, commitTransaction, abortTransaction}
+use Rattle.columns.specs.Table.{writeData, credit, debit, limitedCredit, writeRecord, clearRecordFile, commitTransaction, abortTransaction}
 use Rattle.commands.specs.State.{State}
 use Rattle.commands.specs.Rows.{ok, statusOf}
 use Rattle.card.specs.declared.Card.{Card}

@@ -13,9 +13,10 @@ use Rattle.logbook.specs.Journal as journal
 use Rattle.logbook.specs.View as log
 use Rattle.access.specs.Rights.{rightsSound, sealed, opens, granted, accessOf}
 use Rattle.frames.specs.Frame.{dataStart, dataEnd, wrongSize, wrongClass, wrongParameters, wrongFrame}
-use Rattle.commands.specs.declared.Settings.{Settings}
-use Rattle.commands.specs.Table.{onFile, isFile, suits}
-use Rattle.commands.specs.State.{rightsOf, accessTo, logPending, rightsBroken}
+use Rattle.settings.specs.declared.Settings.{Settings}
+use Rattle.columns.specs.Table.{onFile, isFile, suits}
+use Rattle.settings.specs.Settings.{rightsOf, accessTo, rightsBroken}
+use Rattle.commands.specs.State.{logPending}
 use Rattle.commands.specs.Rows.{unknownCommand, lengthCases, unknownFile, otherKindOrNever, notGranted, switchedOff, parameterCases, ranged, roomOf, amountCases, outside, nothingPending, rowsOf, statusOf}
 use Rattle.effects.specs.Effects.{purseAfter, journalAfter, filesAfter, changed, shown}
 use Rattle.card.specs.declared.Card.{Card}

@@ -15,7 +15,7 @@ use Rattle.purse.specs.Purse as purse
 use Rattle.purse.specs.Guarded.{creditIn, debitIn, rebookIn}
 use Rattle.logbook.specs.declared.Log.{Log}
 use Rattle.logbook.specs.View as log
-use Rattle.commands.specs.Table.{readData, getValue, credit, debit, limitedCredit, readRecords, commitTransaction, abortTransaction}
+use Rattle.columns.specs.Table.{readData, getValue, credit, debit, limitedCredit, readRecords, commitTransaction, abortTransaction}
 use Rattle.frames.specs.Frame.{fileOf, offsetOf, lengthOf, amountOf}
 
 unfoldable pub purseIn : Limits → ℕ → List ℕ → Purse → Purse

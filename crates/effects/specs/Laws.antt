@@ -28,7 +28,7 @@ use Rattle.logbook.specs.Entries.{length-cut}
 use Rattle.logbook.specs.Fit.{Fit}
 use Rattle.logbook.specs.FitLaws.{shown-room}
 use Rattle.frames.specs.Frame.{fileOf, offsetOf, lengthOf, amountOf}
-use Rattle.commands.specs.Table.{readData, getValue, credit, debit, limitedCredit, readRecords, commitTransaction, abortTransaction}
+use Rattle.columns.specs.Table.{readData, getValue, credit, debit, limitedCredit, readRecords, commitTransaction, abortTransaction}
 use Rattle.commands.specs.State.{Core, State}
 use Rattle.commands.specs.Rows.{outside, ok, commandStatus}
 use Rattle.commands.specs.Laws.{inside, read-inside, entries-inside, credit-inside, debit-inside, rebook-inside}

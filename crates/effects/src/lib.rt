@@ -1,5 +1,5 @@
 // What a command does to each part of a card, and what it shows. Each function answers for every command and data field.
-use commands::table;
+use columns::table;
 use datafiles::Files;
 use logbook::Log;
 use purse::Limits;

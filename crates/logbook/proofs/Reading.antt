@@ -1,15 +1,15 @@
 -- What the loop of a read lays, entry by entry, and that it is what the journal shows.
 use Prim.Native.Nat.{ℕ, zero, suc, _+_, _-_, _*_, _≤_, _<_}
-use mathlib.Core.Bool.{true, false}
+use mathlib.Core.Bool.{true, false, _||_}
 use mathlib.Core.List.{List, [], _∷_, _++_, append-nil, append-assoc, reverse, reverse-cons}
-use mathlib.Core.Path.{_≡_, refl, _∙_}
-use borrow.Author.Tests.{leb-false, ltb-false, le-ltb}
+use mathlib.Core.Path.{_≡_, refl, sym, _∙_}
+use borrow.Author.Tests.{leb-false, ltb-false, lt-ltb, le-ltb}
 use lib.Dec.{eqb, leb, ltb}
 use lib.ListN.{length, take, drop, length-append, length-drop}
 use lib.Seq.{drop-drop, length-take-le}
 use native.Mathlib.Numerals.{add-one}
 use native.Mathlib.Omega.{arith}
-use Rattle.tables.specs.Choice.{pick, any, picked, passed, or-no, or-none}
+use Rattle.tables.specs.Choice.{pick, any, picked, passed, or-no, or-none, or-left, or-right}
 use Rattle.wire.specs.Bytes.{part, laid, laidIn, outsideOf}
 use Rattle.wire.specs.Laws.{laid-none, laid-room, laid-behind, length-laid}
 use Rattle.logbook.specs.declared.Log.{Log}
@@ -48,24 +48,28 @@ unfolding oldestFirst cut joined
 oldest-none b bs r = laid-none b
 
 -- one entry more, laid behind those that are there
-pub oldest-step : (b bs now : List ℕ) (t k : ℕ) → 16 * t ≤ length bs → k < t → 16 * t ≤ length b → now ≡ laid b 0 (oldestFirst bs (t - k) k)
-    → laidIn now (16 * k) (part bs (16 * (t - (k + 1))) (16 * (t - (k + 1)) + 16)) ≡ laid b 0 (oldestFirst bs (t - (k + 1)) (k + 1))
-oldest-step b bs now t k h a room q = rw (q, add-one) (step (t - suc k) (omega arith))
+pub oldest-step : (b bs now : List ℕ) (r n k : ℕ) → (length bs ≡ 64) × (r + n ≤ 4) × (64 ≤ length b) → k < n → now ≡ laid b 0 (oldestFirst bs (r + n - k) k)
+    → laidIn now (16 * k) (part bs (16 * (r + n - (k + 1))) (16 * (r + n - (k + 1)) + 16)) ≡ laid b 0 (oldestFirst bs (r + n - (k + 1)) (k + 1))
+oldest-step b bs now r n k (h, few, room) a q = rw (q, add-one) (step (r + n - suc k) (omega arith))
   where
-    step : (r : ℕ) → r + suc k ≡ t → laidIn (laid b 0 (oldestFirst bs (t - k) k)) (16 * k) (part bs (16 * r) (16 * r + 16)) ≡ laid b 0 (oldestFirst bs r (suc k))
-    step r e =
-        let s : t - k ≡ suc r = omega arith in
-        let z : 16 * r + 16 - 16 * r ≡ 16 = omega arith in
-        let l = length-oldest bs (suc r) k (omega arith) in
-        let x : length (take 16 (drop (16 * r) bs)) ≡ 16 = length-take-le 16 (drop (16 * r) bs) (simp length-drop (omega arith)) in
-        let f = length-laid b 0 (oldestFirst bs (suc r) k) (omega arith) in
-        let i = laid-room (laid b 0 (oldestFirst bs (suc r) k)) (16 * k) (take 16 (drop (16 * r) bs)) (omega arith) in
-        let m = oldest-more bs r k in
-        rw (s, z) (cc (laid-behind b (oldestFirst bs (suc r) k) (take 16 (drop (16 * r) bs))))
+    step : (t : ℕ) → t + suc k ≡ r + n → laidIn (laid b 0 (oldestFirst bs (r + n - k) k)) (16 * k) (part bs (16 * t) (16 * t + 16)) ≡ laid b 0 (oldestFirst bs t (suc k))
+    step t e =
+        let s : r + n - k ≡ suc t = omega arith in
+        let z : 16 * t + 16 - 16 * t ≡ 16 = omega arith in
+        let l = length-oldest bs (suc t) k (omega arith) in
+        let x : length (take 16 (drop (16 * t) bs)) ≡ 16 = length-take-le 16 (drop (16 * t) bs) (simp length-drop (omega arith)) in
+        let f = length-laid b 0 (oldestFirst bs (suc t) k) (omega arith) in
+        let i = laid-room (laid b 0 (oldestFirst bs (suc t) k)) (16 * k) (take 16 (drop (16 * t) bs)) (omega arith) in
+        let m = oldest-more bs t k in
+        rw (s, z) (cc (laid-behind b (oldestFirst bs (suc t) k) (take 16 (drop (16 * t) bs))))
 
 -- all of them: the loop's end
-pub oldest-all : (bs : List ℕ) (r n : ℕ) → 16 * (r + n) ≤ length bs → (oldestFirst bs (r + n - n) n ≡ oldestFirst bs r n) × (length (oldestFirst bs r n) ≡ 16 * n)
-oldest-all bs r n h = let m : r + n - n ≡ r = omega arith in (rw m, length-oldest bs r n h)
+pub oldest-all : (b bs now : List ℕ) (r n k : ℕ) → (length bs ≡ 64) × (r + n ≤ 4) × (64 ≤ length b) → k ≤ n → n ≤ k → now ≡ laid b 0 (oldestFirst bs (r + n - k) k)
+    → (now ≡ laid b 0 (oldestFirst bs r n)) × (16 * n ≡ length (oldestFirst bs r n))
+oldest-all b bs now r n k (h, few, room) up down q =
+    let e : k ≡ n = omega arith in
+    let m : r + n - n ≡ r = omega arith in
+    (rw (e, m) at q, sym (length-oldest bs r n (omega arith)))
 
 -- ---- the read
 
@@ -75,16 +79,35 @@ inside size off len e =
     let h = or-no (leb size off) (ltb size (off + len)) e in
     (leb-false size off (h .0), ltb-false size (off + len) (h .1))
 
--- nothing is shown where one of the tests holds
-pub shows-nothing : (b : List ℕ) (l : Log) (r c : ℕ) → any (ltb (length b) 64 ∷ ltb 4 (l .count) ∷ outsideOf (l .count) r c ∷ []) ≡ true
-    → (b ≡ laid b 0 (shownIn (length b) l r c)) × (0 ≡ length (shownIn (length b) l r c))
-unfolding shownIn
-shows-nothing b l r c h = rw (picked [] (shown (view l) r c) h) (laid-none b, refl)
+pub at-most : {n m k : ℕ} → n ≤ m → m ≤ k → n ≤ k
+at-most a b = omega arith
 
--- else it is what the loop lays
-pub shows : (room : ℕ) (l : Log) (r c n : ℕ) → 64 ≤ room → l .count ≤ 4 → outsideOf (l .count) r c ≡ false → n ≡ pick (eqb c 0) (l .count - r) c → r + n ≤ l .count
-    → shownIn room l r c ≡ oldestFirst (l .slots) r n
-unfolding shownIn shown view oldestFirst
-shows room l r c n big few o q h =
-    passed [] (shown (view l) r c) (or-none _ _ (or-none _ _ (le-ltb _ _ big) (le-ltb _ _ few)) o)
-    ∙ rw (length-cut (l .count) (l .slots), ← q, cut-range r n (l .count) (l .slots) h)
+-- what a read leaves of the buffer b, and the length that it answers
+abbrev pub Shown : List ℕ → List ℕ → Log → ℕ → ℕ → ℕ → Type 0
+Shown b after l r c n = (after ≡ laid b 0 (shownIn (length b) l r c)) × (n ≡ length (shownIn (length b) l r c))
+
+module _ (b : List ℕ) (l : Log) (r c : ℕ) where
+  -- nothing is shown where one of the tests holds
+  shows-nothing : any (ltb (length b) 64 ∷ ltb 4 (l .count) ∷ outsideOf (l .count) r c ∷ []) ≡ true → Shown b b l r c 0
+  unfolding shownIn
+  shows-nothing h = rw (picked [] (shown (view l) r c) h) (laid-none b, refl)
+
+  pub shows-in-no-room : length b < 64 → Shown b b l r c 0
+  shows-in-no-room h = shows-nothing (or-left (ltb (length b) 64 || ltb 4 (l .count)) (outsideOf (l .count) r c) (or-left (ltb (length b) 64) (ltb 4 (l .count)) (lt-ltb _ _ h)))
+
+  pub shows-of-too-many : 4 < l .count → Shown b b l r c 0
+  shows-of-too-many h = shows-nothing (or-left (ltb (length b) 64 || ltb 4 (l .count)) (outsideOf (l .count) r c) (or-right (ltb (length b) 64) (ltb 4 (l .count)) (lt-ltb _ _ h)))
+
+  pub shows-outside : outsideOf (l .count) r c ≡ true → Shown b b l r c 0
+  shows-outside h = shows-nothing (or-right (ltb (length b) 64 || ltb 4 (l .count)) (outsideOf (l .count) r c) h)
+
+  -- else it is what the loop lays
+  pub shows : (n : ℕ) → 64 ≤ length b → l .count ≤ 4 → outsideOf (l .count) r c ≡ false → (n ≡ pick (eqb c 0) (l .count - r) c) × (r + n ≤ l .count)
+      → {after : List ℕ} {size : ℕ} → (after ≡ laid b 0 (oldestFirst (l .slots) r n)) × (size ≡ length (oldestFirst (l .slots) r n)) → Shown b after l r c size
+  unfolding shownIn shown view oldestFirst
+  shows n big few o (q, h) (e, f) = (rw s e, rw s f)
+    where
+      s : shownIn (length b) l r c ≡ oldestFirst (l .slots) r n
+      s =
+          passed [] (shown (view l) r c) (or-none _ _ (or-none _ _ (le-ltb _ _ big) (le-ltb _ _ few)) o)
+          ∙ rw (length-cut (l .count) (l .slots), ← q, cut-range r n (l .count) (l .slots) h)

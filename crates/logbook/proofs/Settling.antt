@@ -1,4 +1,4 @@
--- What a commit comes to: a clear, a new entry in front, or nothing.
+-- What a write leaves, and what a commit comes to: a clear, a new entry in front, or nothing.
 use Prim.Native.Nat.{ℕ, _+_, _-_, _*_, _≤_, min}
 use mathlib.Core.Bool.{true, false}
 use mathlib.Core.List.{List, [], _∷_, _++_, append-assoc}
@@ -11,7 +11,7 @@ use Rattle.tables.specs.Choice.{picked, passed}
 use Rattle.wire.specs.Bytes.{part, laid, laidIn}
 use Rattle.wire.specs.Laws.{laid-room, length-laid}
 use Rattle.logbook.specs.declared.Log.{Log}
-use Rattle.logbook.specs.Journal.{joined, freshOr, pushed, resting, settled, dropped}
+use Rattle.logbook.specs.Journal.{Journal, blank, joined, freshOr, written, pushed, resting, settled, dropped}
 use Rattle.logbook.specs.View.{view, some, put}
 use Rattle.logbook.specs.Entries.{length-cut, joined-cut, take-cut}
 use Rattle.logbook.specs.Laws.{put-same}
@@ -28,10 +28,22 @@ pub settled-none : (l : Log) → l .clears ≡ false → l .adds ≡ false → s
 unfolding settled dropped view pushed
 settled-none l h a = ap resting (passed [] (pushed (view l .fresh) (view l .entries)) h ∙ ap (λ (fs : List (List ℕ)). pushed fs (view l .entries)) (passed (l .entry ∷ []) [] a))
 
+-- a log made for a journal that is the one asked for
+pub put-of : (l : Log) {r : Log} {j k : Journal} → r ≡ put l j → k ≡ j → r ≡ put l k
+put-of l e q = e ∙ ap (λ (i : Journal). put l i) (sym q)
+
 -- what drop_pending leaves
 pub dropped-log : (l : Log) → put l (dropped (view l)) ≡ record { slots = l .slots; count = l .count; entry = l .entry; adds = false; clears = false }
 unfolding dropped view resting some freshOr
 dropped-log l = put-same l (dropped (view l)) refl
+
+-- what a write leaves: the new entry as it stood, with the bytes laid over it
+pub written-log : (l : Log) (off : ℕ) (bytes stood entry : List ℕ) → stood ≡ freshOr blank (view l .fresh) → entry ≡ laidIn stood off bytes
+    → record { slots = l .slots; count = l .count; entry = entry; adds = true; clears = l .clears } ≡ put l (written (view l) off bytes)
+unfolding view some written freshOr
+written-log l off bytes stood entry s e =
+    let q : entry ≡ laidIn (freshOr blank (view l .fresh)) off bytes = e ∙ ap (λ (x : List ℕ). laidIn x off bytes) s in
+    (λ i. record { slots = l .slots; count = l .count; entry = q i; adds = true; clears = l .clears }) ∙ sym (put-same l (written (view l) off bytes) refl)
 
 -- what was moved up by e's length, with e then laid in front
 laid-front : (bs e p : List ℕ) (n : ℕ) → length e ≡ n → n ≤ length bs → laid (laid bs n p) 0 e ≡ laid bs 0 (e ++ p)

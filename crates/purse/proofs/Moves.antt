@@ -13,7 +13,8 @@ use mir.Facts.{toZ-ofZ, toZ-pos, sfits-widen}
 use Rattle.tables.specs.Choice.{and-yes}
 use Rattle.whole.specs.Parts.{above, below, neg-above, neg-below, sum, range32, in32, in64, test-yes}
 use Rattle.purse.specs.declared.Limits.{Limits}
-use Rattle.purse.specs.Purse.{within}
+use Rattle.purse.specs.declared.Purse.{Purse}
+use Rattle.purse.specs.Purse.{within, resting}
 
 -- what the machine reads of a figure of 32 bits, at 32 and at 64 bits
 abbrev pub narrow : ℤ → ℤ
@@ -81,3 +82,9 @@ module _ (l : Limits) {p z m : ℤ} {r : Bool} (k : Moved p z m) (e : r ≡ with
       let high = test-yes (p +ℤ z) (l .upper) (b .1) in
       let g : SFits w32 (p +ℤ z) = in32 _ (omega (arith, high, range32 fu)) (omega (arith, low, range32 fl)) in
       record { holds = h; sum = k; fits = rw (k .to) g; to = rw (k .to) (toZ-ofZ g) }
+
+-- ---- at rest
+
+-- a purse at rest at a figure that the machine read
+pub rested : {p : Purse} {v : ℤ} {a b : ℕ} → SFits w32 v → p ≡ resting (narrow v) b → a ≡ b → p ≡ resting v a
+rested f e q = e ∙ (λ i. resting (toZ-ofZ f i) (sym q i))

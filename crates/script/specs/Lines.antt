@@ -15,7 +15,7 @@ use Rattle.purse.specs.declared.Purse.{Purse}
 use Rattle.logbook.specs.declared.Log.{Log}
 use Rattle.access.specs.declared.Session.{Session}
 use Rattle.access.specs.declared.Session.the-variants.{Nobody, Key}
-use Rattle.commands.specs.declared.Settings.{Settings}
+use Rattle.settings.specs.declared.Settings.{Settings}
 use Rattle.card.specs.declared.Card.{Card}
 use Rattle.card.specs.declared.Reply.{Reply}
 use Rattle.card.specs.Outcome.{Outcome, replyOf}

@@ -1,10 +1,12 @@
 //! The reference model as a bench program: lines in, answers out.
+//!
+//! It has a C main and not Rust's: the start of Rust's runtime reads
+//! /proc/self/maps, on which the emulator that runs x86-64 programs on Arm ends.
 
-#![forbid(unsafe_code)]
+#![no_main]
 
 use card_reference::bench::Stream;
 use std::io::{self, ErrorKind, Read, Write};
-use std::process::ExitCode;
 
 const HELP: &str = "\
 refbench: the reference model as a bench program
@@ -52,22 +54,23 @@ fn run() -> io::Result<()> {
     }
 }
 
-fn main() -> ExitCode {
+#[no_mangle]
+pub extern "C" fn main() -> i32 {
     let mut arguments = std::env::args_os().skip(1);
     if let Some(argument) = arguments.next() {
         return if argument == "--help" || argument == "-h" {
             print!("{HELP}");
-            ExitCode::SUCCESS
+            0
         } else {
             eprint!("refbench: takes no arguments\n\n{HELP}");
-            ExitCode::from(2)
+            2
         };
     }
     match run() {
-        Ok(()) => ExitCode::SUCCESS,
+        Ok(()) => 0,
         Err(error) => {
             eprintln!("refbench: {error}");
-            ExitCode::from(2)
+            2
         }
     }
 }

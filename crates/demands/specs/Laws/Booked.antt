@@ -10,7 +10,7 @@ use Rattle.tables.specs.Choice.{pick}
 use Rattle.purse.specs.Purse as purse
 use Rattle.logbook.specs.Journal as journal
 use Rattle.frames.specs.Frame.{insOf, dataOf}
-use Rattle.commands.specs.Table.{commitTransaction}
+use Rattle.columns.specs.Table.{commitTransaction}
 use Rattle.commands.specs.State.{State}
 use Rattle.commands.specs.Rows.{ok, statusOf, commandStatus}
 use Rattle.commands.specs.Laws.{command-ok}

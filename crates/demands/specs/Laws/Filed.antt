@@ -12,7 +12,7 @@ use Rattle.wire.specs.Laws.{laid-room}
 use Rattle.datafiles.specs.declared.Files.{Files}
 use Rattle.datafiles.specs.Files as files
 use Rattle.frames.specs.Frame.{insOf, dataOf, fileOf, offsetOf, bytesIn}
-use Rattle.commands.specs.Table.{writeData, isData}
+use Rattle.columns.specs.Table.{writeData, isData}
 use Rattle.commands.specs.State.{State}
 use Rattle.commands.specs.Rows.{ok, statusOf, commandStatus}
 use Rattle.commands.specs.Laws.{command-ok}

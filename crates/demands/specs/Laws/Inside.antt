@@ -12,8 +12,9 @@ use Rattle.wire.specs.Bytes.{outsideOf}
 use Rattle.wire.specs.Laws.{length-part}
 use Rattle.datafiles.specs.Files.{sizeOf}
 use Rattle.frames.specs.Frame.{fileOf, offsetOf, lengthOf, bytesIn}
-use Rattle.commands.specs.Table.{writeData, writeRecord, isData, onFile, suits}
-use Rattle.commands.specs.State.{Core, accessTo}
+use Rattle.columns.specs.Table.{writeData, writeRecord, isData, onFile, suits}
+use Rattle.settings.specs.Settings.{accessTo}
+use Rattle.commands.specs.State.{Core}
 use Rattle.commands.specs.Rows.{lengthCases, wrongLength, otherKindOrNever, rowsOf, ok, commandStatus}
 use Rattle.commands.specs.Laws.{command-clear, inside, write-inside, entry-inside}
 

@@ -12,8 +12,8 @@ use Rattle.purse.specs.Laws as purse-laws
 use Rattle.logbook.specs.View as log
 use Rattle.logbook.specs.Journal as journal
 use Rattle.logbook.specs.Laws as logbook
-use Rattle.commands.specs.declared.Settings.{Settings}
-use Rattle.commands.specs.State.{rightsBroken}
+use Rattle.settings.specs.declared.Settings.{Settings}
+use Rattle.settings.specs.Settings.{rightsBroken}
 use Rattle.card.specs.View.{view}
 use Rattle.card.specs.Rules.{brokenBy}
 use Rattle.card.specs.Events.{issued, orderRefusal}

@@ -8,7 +8,7 @@ use lib.Dec.{eqb}
 use Rattle.tables.specs.Choice.{pick}
 use Rattle.purse.specs.declared.Purse.{Purse}
 use Rattle.logbook.specs.Journal.{Journal}
-use Rattle.commands.specs.Table.{credit, debit, limitedCredit, writeRecord, clearRecordFile, commitTransaction, abortTransaction}
+use Rattle.columns.specs.Table.{credit, debit, limitedCredit, writeRecord, clearRecordFile, commitTransaction, abortTransaction}
 use Rattle.effects.specs.Effects.{purseAfter, journalAfter}
 use Rattle.demands.specs.Strike.{idle}
 use Rattle.demands.specs.History.{bookLine}

@@ -22,8 +22,9 @@ use Rattle.logbook.specs.Fit.{Fit, Sixteens}
 use Rattle.logbook.specs.FitLaws.{fit-written, fit-cleared, fit-settled, fit-dropped}
 use Rattle.access.specs.declared.Session.{Session}
 use Rattle.access.specs.Rights.{sessionSound}
-use Rattle.commands.specs.Table.{credit, debit, limitedCredit, writeRecord}
-use Rattle.commands.specs.State.{Core, State, rightsBroken, logPending}
+use Rattle.columns.specs.Table.{credit, debit, limitedCredit, writeRecord}
+use Rattle.settings.specs.Settings.{rightsBroken}
+use Rattle.commands.specs.State.{Core, State, logPending}
 use Rattle.commands.specs.Rows.{rowsOf, switchedOff, ok, commandStatus}
 use Rattle.commands.specs.Laws.{command-clear, inside, credit-inside, debit-inside, rebook-inside}
 use Rattle.effects.specs.Effects.{purseAfter, journalAfter, filesAfter, changed}

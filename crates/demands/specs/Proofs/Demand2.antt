@@ -5,7 +5,7 @@ use mathlib.Core.Logic.{_↔_}
 use mathlib.Core.Path.{_≡_, refl, sym, _∙_, ap}
 use lib.IntN.{ℤ}
 use Rattle.tables.specs.Reasons.{NoReason}
-use Rattle.commands.specs.declared.Settings.{Settings}
+use Rattle.settings.specs.declared.Settings.{Settings}
 use Rattle.commands.specs.Rows.{rowsOf, ok, statusOf}
 use Rattle.commands.specs.Laws.{clear}
 use Rattle.card.specs.declared.Card.{Card}

@@ -11,7 +11,7 @@ use Rattle.purse.specs.Purse as purse
 use Rattle.purse.specs.Laws as purse-laws
 use Rattle.logbook.specs.Journal as journal
 use Rattle.access.specs.declared.Session.the-variants.{Nobody}
-use Rattle.commands.specs.declared.Settings.{Settings}
+use Rattle.settings.specs.declared.Settings.{Settings}
 use Rattle.commands.specs.State.{State, logPending}
 use Rattle.commands.specs.Rows.{ok, statusOf}
 use Rattle.effects.specs.Effects.{changed}

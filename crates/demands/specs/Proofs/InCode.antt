@@ -13,7 +13,7 @@ use Rattle.wire.specs.Bytes.{laid}
 use Rattle.wire.specs.Laws.{laid-none}
 use Rattle.access.specs.declared.Session.{Session}
 use Rattle.access.specs.Rights.{sessionSound}
-use Rattle.commands.specs.declared.Settings.{Settings}
+use Rattle.settings.specs.declared.Settings.{Settings}
 use Rattle.card.specs.declared.Card.{Card}
 use Rattle.card.specs.declared.Reply.{Reply}
 use Rattle.card.specs.Outcome.{Outcome, replyOf, Answered, bench}

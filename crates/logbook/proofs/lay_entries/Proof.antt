@@ -1,5 +1,5 @@
 use mathlib.Core.Path.{_≡_, refl, _∙_}
-use Prim.Native.Nat.{_≤_, _-_, _+_}
+use Prim.Native.Nat.{_≤_, _-_}
 use native.Mathlib.Omega.{arith}
 use borrow.Author.Needs.{needs}
 use lib.ListN.{length}
@@ -56,9 +56,11 @@ loop-less c = search needs
 
 loop-again : tie.Need-loop-again Inv-loop μ-loop
 loop-again c =
-    let a = c .before .before .before .before .before .before .before .before .before .args in
-    let l = c .before .before .before .before .before .before .loop in
-    (search needs, search needs, c .before .before .lay .ensures ∙ oldest-step (a .reply .now) (a .slots .now) (l .reply) (a .first + a .number) (l .k) (omega arith) (omega arith) (omega arith) (l .inv .2))
+    let i = c .before .before .before .before .before in
+    let l = i .before .loop in
+    let s = i .before .before .before .before in
+    let a = s .args in
+    (search needs, search needs, c .before .before .lay .ensures ∙ oldest-step (a .reply .now) (a .slots .now) (l .reply) (a .first) (a .number) (l .k) (s .pre) (i .loop-test .taken) (l .inv .2))
 
 mul-result : tie.Need-mul-result Inv-loop μ-loop
 mul-result c = search needs
@@ -68,10 +70,10 @@ same-length c = search needs
 
 returns : tie.Need-returns Inv-loop μ-loop
 returns c =
-    let a = c .before .before .before .before .args in
-    let k : c .before .loop .k ≡ a .number = omega arith in
-    let s = oldest-all (a .slots .now) (a .first) (a .number) (omega arith) in
-    (cc, cc)
+    let l = c .before .loop in
+    let s = c .before .before .before .before in
+    let a = s .args in
+    oldest-all (a .reply .now) (a .slots .now) (l .reply) (a .first) (a .number) (l .k) (s .pre) (l .inv .0) (c .loop-test .left) (l .inv .2)
 
 pub lay-entries-spec : {M : Type 1} → statement M
 lay-entries-spec =

@@ -1,5 +1,5 @@
 use Rattle.card.specs.Events.{orderRefusal}
-use Rattle.commands.specs.State.{rightsBroken}
+use Rattle.settings.specs.Settings.{rightsBroken}
 use Rattle.purse.specs.Purse.{crossed, within}
 use Rattle.tables.specs.Choice.{choice}
 use mir.Facts.{toZ-ofZ}

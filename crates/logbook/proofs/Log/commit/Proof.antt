@@ -1,25 +1,24 @@
-use Rattle.logbook.proofs.Settling.{settled-clears, settled-adds, settled-none}
-use borrow.Author.Needs.{needs}
+use Rattle.logbook.proofs.Settling.{settled-clears, settled-adds, settled-none, put-of}
 use Rattle.logbook.proofs.Log.commit.Statement.{statement}
 use Rattle.logbook.proofs.Log.commit.Tie as tie
 
 emptied-requires : tie.Need-emptied-requires
-emptied-requires c κs = search needs
+emptied-requires c κs = tt
 
 returns : tie.Need-returns
-returns c = let s = settled-clears (c .before .before .args .self) (c .before .if1 .taken) in cc
+returns c = let l = c .before .before .args .self in put-of l (c .emptied .ensures) (settled-clears l (c .before .if1 .taken))
 
 push-requires : tie.Need-push-requires
-push-requires c κs = search needs
+push-requires c κs = tt
 
 returns-2 : tie.Need-returns-2
-returns-2 c = let s = settled-adds (c .before .before .before .args .self) (c .before .before .if1 .left) (c .before .if2 .taken) in cc
+returns-2 c = let l = c .before .before .before .args .self in put-of l (c .push .ensures) (settled-adds l (c .before .before .if1 .left) (c .before .if2 .taken))
 
 drop-pending-requires : tie.Need-drop-pending-requires
-drop-pending-requires c κs = search needs
+drop-pending-requires c κs = tt
 
 returns-3 : tie.Need-returns-3
-returns-3 c = let s = settled-none (c .before .before .before .args .self) (c .before .before .if1 .left) (c .before .if2 .left) in cc
+returns-3 c = let l = c .before .before .before .args .self in put-of l (c .drop-pending .ensures) (settled-none l (c .before .before .if1 .left) (c .before .if2 .left))
 
 pub commit-spec : {M : Type 1} → statement M
 commit-spec =

@@ -1,0 +1,83 @@
+// The columns of the command table and of the file table: a test each.
+pub mod table;
+
+use datafiles::Files;
+ghost use mathlib.Core.Path.{_≡_};
+ghost use Rattle.columns.specs.Table.{onData, onValue, onLog, onFile, ends, byRead, byWrite, isData, isFile, suits};
+
+pub fn on_data(ins: u8) -> bool
+    ensures { λ r. ⌜ r ≡ onData ins ⌝ }
+{
+    (ins == table::READ_DATA) | (ins == table::WRITE_DATA)
+}
+
+fn on_value(ins: u8) -> bool
+    ensures { λ r. ⌜ r ≡ onValue ins ⌝ }
+{
+    (ins == table::GET_VALUE)
+        | (ins == table::CREDIT)
+        | (ins == table::DEBIT)
+        | (ins == table::LIMITED_CREDIT)
+}
+
+fn on_log(ins: u8) -> bool
+    ensures { λ r. ⌜ r ≡ onLog ins ⌝ }
+{
+    (ins == table::READ_RECORDS) | (ins == table::WRITE_RECORD) | (ins == table::CLEAR_RECORD_FILE)
+}
+
+pub fn on_file(ins: u8) -> bool
+    ensures { λ r. ⌜ r ≡ onFile ins ⌝ }
+{
+    on_data(ins) | on_value(ins) | on_log(ins)
+}
+
+// Commit and abort, which name no file.
+pub fn ends_all(ins: u8) -> bool
+    ensures { λ r. ⌜ r ≡ ends ins ⌝ }
+{
+    (ins == table::COMMIT_TRANSACTION) | (ins == table::ABORT_TRANSACTION)
+}
+
+pub fn by_read(ins: u8) -> bool
+    ensures { λ r. ⌜ r ≡ byRead ins ⌝ }
+{
+    (ins == table::READ_DATA)
+        | (ins == table::GET_VALUE)
+        | (ins == table::DEBIT)
+        | (ins == table::READ_RECORDS)
+}
+
+pub fn by_write(ins: u8) -> bool
+    ensures { λ r. ⌜ r ≡ byWrite ins ⌝ }
+{
+    (ins == table::WRITE_DATA)
+        | (ins == table::GET_VALUE)
+        | (ins == table::DEBIT)
+        | (ins == table::LIMITED_CREDIT)
+        | (ins == table::WRITE_RECORD)
+}
+
+fn is_data(n: u8) -> bool
+    ensures { λ r. ⌜ r ≡ isData n ⌝ }
+{
+    (n == Files::DATA_00) | (n == Files::DATA_04) | (n == Files::DATA_1F)
+}
+
+pub fn is_file(n: u8) -> bool
+    ensures { λ r. ⌜ r ≡ isFile n ⌝ }
+{
+    let bytes = is_data(n);
+    bytes | (n == table::VALUE_03) | (n == table::LOG_01)
+}
+
+// Whether file n is of the kind on which the command acts.
+pub fn suits_file(ins: u8, n: u8) -> bool
+    ensures { λ r. ⌜ r ≡ suits ins n ⌝ }
+{
+    let bytes = is_data(n);
+    let data = on_data(ins);
+    let value = on_value(ins);
+    let log = on_log(ins);
+    (data & bytes) | (value & (n == table::VALUE_03)) | (log & (n == table::LOG_01))
+}

@@ -1,0 +1,32 @@
+-- What personalisation fixes, and what it grants.
+use Prim.Native.Nat.{ℕ}
+use mathlib.Core.Bool.{Bool, not, _&&_}
+use mathlib.Core.List.{[], _∷_}
+use lib.Dec.{eqb}
+use Rattle.tables.specs.Choice.{pick, any}
+use Rattle.datafiles.specs.Files.{data00, data04, data1F}
+use Rattle.access.specs.declared.Session.{Session}
+use Rattle.access.specs.declared.Access.{Access}
+use Rattle.access.specs.Rights.{accessOf, rightsSound}
+use Rattle.columns.specs.Table.{value03, byRead, byWrite, getValue}
+use Rattle.settings.specs.declared.Settings.{Settings}
+
+-- the rights of file n
+unfoldable pub rightsOf : Settings → ℕ → ℕ
+rightsOf s n =
+    pick (eqb n data00) (s .r00) (pick (eqb n data04) (s .r04) (pick (eqb n data1F) (s .r1f) (pick (eqb n value03) (s .r03) (s .r01))))
+
+-- may the command i be used on file n; with free GetValue on, that command is granted unless R, W and RW are all Fh
+unfoldable pub accessTo : Settings → Session → ℕ → ℕ → Access
+accessTo s k i n = accessOf (rightsOf s n) k (byRead i) (byWrite i) (eqb i getValue && s .free)
+
+-- a rights nibble is 5 to Dh
+unfoldable pub rightsBroken : Settings → Bool
+rightsBroken s =
+    any
+    (not (rightsSound (s .r00))
+    ∷ not (rightsSound (s .r04))
+    ∷ not (rightsSound (s .r1f))
+    ∷ not (rightsSound (s .r03))
+    ∷ not (rightsSound (s .r01))
+    ∷ [])

@@ -1,0 +1,70 @@
+// What personalisation fixes, and what it grants.
+use access::Access;
+use access::Session;
+use columns::table;
+use datafiles::Files;
+use purse::Limits;
+ghost use mathlib.Core.Path.{_≡_};
+ghost use Rattle.settings.specs.Settings.{rightsOf, accessTo, rightsBroken};
+
+pub struct Settings {
+    // The rights of files 00h, 04h, 1Fh, 03h and 01h.
+    pub r00: u16,
+    pub r04: u16,
+    pub r1f: u16,
+    pub r03: u16,
+    pub r01: u16,
+    pub limits: Limits,
+    // LimitedCredit is on; GetValue is free.
+    pub limited: bool,
+    pub free: bool,
+}
+
+impl Settings {
+    // The rights of file n.
+    fn rights(self, n: u8) -> u16
+        ensures { λ r. ⌜ r ≡ rightsOf self n ⌝ }
+    {
+        if n == Files::DATA_00 {
+            return self.r00;
+        }
+        if n == Files::DATA_04 {
+            return self.r04;
+        }
+        if n == Files::DATA_1F {
+            return self.r1f;
+        }
+        if n == table::VALUE_03 {
+            return self.r03;
+        }
+        self.r01
+    }
+
+    // Whether the command may be used on file n under this session.
+    pub fn access_to(self, session: Session, ins: u8, n: u8) -> Access
+        ensures { λ r. ⌜ r ≡ accessTo self session ins n ⌝ }
+    {
+        let rights = self.rights(n);
+        let by_read = columns::by_read(ins);
+        let by_write = columns::by_write(ins);
+        access::decide(
+            rights,
+            session,
+            by_read,
+            by_write,
+            (ins == table::GET_VALUE) & self.free,
+        )
+    }
+
+    // Whether a rights nibble is 5 to Dh.
+    pub fn has_wrong_rights(self) -> bool
+        ensures { λ r. ⌜ r ≡ rightsBroken self ⌝ }
+    {
+        let a = access::rights_are_sound(self.r00);
+        let b = access::rights_are_sound(self.r04);
+        let c = access::rights_are_sound(self.r1f);
+        let d = access::rights_are_sound(self.r03);
+        let e = access::rights_are_sound(self.r01);
+        !a | !b | !c | !d | !e
+    }
+}
