@@ -47,7 +47,16 @@ fn nibble_is_sound(n: u8) -> bool
 fn nibbles_are_sound(a: u8, b: u8, c: u8, d: u8) -> bool
     ensures { λ r. ⌜ r ≡ (nibbleSound a && nibbleSound b && nibbleSound c && nibbleSound d) ⌝ }
 {
-    nibble_is_sound(a) & nibble_is_sound(b) & nibble_is_sound(c) & nibble_is_sound(d)
+    if !nibble_is_sound(a) {
+        return false;
+    }
+    if !nibble_is_sound(b) {
+        return false;
+    }
+    if !nibble_is_sound(c) {
+        return false;
+    }
+    nibble_is_sound(d)
 }
 
 // Whether no nibble of a file's rights is 5 to Dh.

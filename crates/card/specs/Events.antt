@@ -1,7 +1,7 @@
 -- The events: personalisation, a command, a session change, a power-up.
 use Prim.Native.Nat.{ℕ}
 use mathlib.Core.List.{List, [], _++_}
-use mathlib.Core.Bool.{Bool, not, false}
+use mathlib.Core.Bool.{not, false}
 use lib.Dec.{ltb, eqb}
 use lib.IntN.{ℤ, pos}
 use Rattle.tables.specs.Choice.{pick}
@@ -16,7 +16,7 @@ use Rattle.access.specs.Rights.{sessionSound}
 use Rattle.frames.specs.Frame.{insOf, dataOf}
 use Rattle.settings.specs.declared.Settings.{Settings}
 use Rattle.settings.specs.Settings.{rightsBroken}
-use Rattle.commands.specs.State.{Core, State}
+use Rattle.commands.specs.State.{State}
 use Rattle.commands.specs.Rows.{ok, statusOf}
 use Rattle.effects.specs.Effects.{changed, shown}
 use Rattle.card.specs.declared.Card.{Card}

@@ -15,21 +15,24 @@ use Rattle.logbook.specs.declared.Log.{Log}
 use Rattle.logbook.specs.View as log
 use Rattle.logbook.specs.Laws as logbook
 use Rattle.logbook.specs.FitLaws.{fit-view}
+use Rattle.purse.specs.declared.Purse.{Purse}
+use Rattle.datafiles.specs.declared.Files.{Files}
 use Rattle.access.specs.declared.Session.{Session}
 use Rattle.access.specs.Rights.{sessionSound}
+use Rattle.columns.specs.Table.{writeData, shows}
 use Rattle.frames.specs.Frame.{insOf, dataOf}
 use Rattle.settings.specs.declared.Settings.{Settings}
 use Rattle.commands.specs.State.{State, logPending}
 use Rattle.commands.specs.Rows.{ok, statusOf, commandStatus}
-use Rattle.effects.specs.Effects.{changed, shown}
-use Rattle.effects.specs.Guarded.{shownIn}
-use Rattle.effects.specs.Laws.{shown-accepted, shown-small}
+use Rattle.effects.specs.Effects.{purseAfter, journalAfter, filesAfter, changed, shown}
+use Rattle.effects.specs.Guarded.{purseIn, shownIn}
+use Rattle.effects.specs.Laws.{purse-accepted, shown-accepted, shown-small, shows-changes-nothing, quiet-shows-nothing}
 use Rattle.card.specs.declared.Card.{Card}
 use Rattle.card.specs.declared.Reply.{Reply}
 use Rattle.card.specs.View.{view, put}
 use Rattle.card.specs.Rules.{rules, brokenBy, broken}
 use Rattle.card.specs.Outcome.{Outcome, replyOf, Answered, bench}
-use Rattle.card.specs.Events.{Played, ended, refused, accepted, played, laidInto, replyRoom, commanded, withSession, sessionChanged, poweredUp, issued, blank, orderRefusal, personalised}
+use Rattle.card.specs.Events.{ended, refused, accepted, played, laidInto, replyRoom, commanded, withSession, sessionChanged, poweredUp, issued, blank, orderRefusal, personalised}
 
 -- what is pending on the log by its two flags
 pub pending-view : (l : Log) → logPending (log.view l) ≡ (l .adds || l .clears)
@@ -66,15 +69,6 @@ bench-answers c n b = (refl, laid-none b)
 pub answered-as : (o o′ : Outcome) (b b₂ : List ℕ) (r : Reply) → o ≡ o′ → Answered o b b₂ r → Answered o′ b b₂ r
 answered-as o o′ b b₂ r e a = (cc, cc)
 
--- a refusal: the status bytes w at the front of a buffer with room for them
-pub refused-answers : (c : Card) (status : ℕ) (b b₂ w : List ℕ) (k : Card) → replyRoom ≤ length b → k ≡ put c (ended (view c)) → w ≡ word status → b₂ ≡ laidIn b 0 w
-    → Answered (laidInto c (refused (view c) status)) b b₂ (reply k 0 2)
-unfolding laidInto refused replyOf
-refused-answers c status b b₂ w k room ek ew e =
-    let l = length-word status in
-    let q = laid-room b 0 (word status) (omega arith) in
-    (cc, cc)
-
 -- what an accepted command lays at the front is its data
 pub accepted-shows : (c : Card) (i : ℕ) (d b b₁ : List ℕ) (n : ℕ) → commandStatus (view c .core) i d ≡ ok → broken c ≡ false → replyRoom ≤ length b
     → length (c .log .slots) ≡ 64 → length (c .log .entry) ≡ 16 → Shows (shownIn (length b) (c .files) (c .purse .value) (c .log) i d) b b₁ n
@@ -87,19 +81,36 @@ accepted-shows c i d b b₁ n e r room ls le s =
     let t : n ≡ length (shown (view c) i d) = s .1 ∙ ap length q in
     ((cc, t), omega arith)
 
--- an accepted command: its data at the front, and the status bytes w behind them
-pub accepted-answers : (c : Card) (i : ℕ) (d b b₁ b₂ w : List ℕ) (k : Card) (n : ℕ) → replyRoom ≤ length b → n ≤ 256 → Shows (shown (view c) i d) b b₁ n
-    → k ≡ put c (changed (view c) i d) → w ≡ word ok → b₂ ≡ laidIn b₁ n w → Answered (laidInto c (accepted (view c) i d)) b b₂ (reply k 0 (n + 2))
+-- an accepted command that shows: its data at the front, the status bytes w behind them, and the card as it was
+pub shown-answers : (c : Card) (i : ℕ) (d b b₁ b₂ w : List ℕ) (n : ℕ) → replyRoom ≤ length b → n ≤ 256 → shows i ≡ true → Shows (shown (view c) i d) b b₁ n
+    → w ≡ word ok → b₂ ≡ laidIn b₁ n w → Answered (laidInto c (accepted (view c) i d)) b b₂ (reply c 0 (n + 2))
 unfolding laidInto accepted replyOf
-accepted-answers c i d b b₁ b₂ w k n room small s ek ew e =
+shown-answers c i d b b₁ b₂ w n room small t s ew e =
     let x = shown (view c) i d in
     let lw = length-word ok in
     let lx : n ≡ length x = s .1 in
     let lb : length b₁ ≡ length b = ap length (s .0) ∙ length-laid b 0 x (omega arith) in
     let q : laidIn b₁ n (word ok) ≡ laid b₁ n (word ok) = laid-room b₁ n (word ok) (omega arith) in
     let z = laid-behind b x (word ok) in
-    let t : length (x ++ word ok) ≡ n + 2 = length-append x (word ok) ∙ (simp (length-word, ← lx)) in
+    let l : length (x ++ word ok) ≡ n + 2 = length-append x (word ok) ∙ (simp (length-word, ← lx)) in
+    let k : c ≡ put c (changed (view c) i d) = sym (ap (put c) (shows-changes-nothing (view c) d i t) ∙ put-view c) in
     (cc, cc)
+
+-- the card that an accepted command on the value file or the log leaves
+pub moved : (c : Card) (i : ℕ) (d : List ℕ) (p : Purse) (l : Log) → commandStatus (view c .core) i d ≡ ok → eqb i writeData ≡ false
+    → p ≡ purseIn (c .settings .limits) i d (c .purse) → l ≡ log.put (c .log) (journalAfter i d (log.view (c .log)))
+    → record { settings = c .settings; files = c .files; purse = p; log = l; session = c .session } ≡ put c (changed (view c) i d)
+unfolding put view changed
+moved c i d p l e w ep el =
+    let q = ep ∙ purse-accepted (view c .core) i d e in
+    let f : filesAfter i d (c .files) ≡ c .files = unfold filesAfter in passed _ _ w in
+    rw (q, el, f) refl
+
+-- the card that an accepted WriteData leaves
+pub wrote : (c : Card) (d : List ℕ) (f : Files) → f ≡ filesAfter writeData d (c .files)
+    → record { settings = c .settings; files = f; purse = c .purse; log = c .log; session = c .session } ≡ put c (changed (view c) writeData d)
+unfolding put view changed purseAfter journalAfter pick
+wrote c d f e = rw (e, logbook.put-view (c .log)) refl
 
 -- ---- a command
 
@@ -124,6 +135,34 @@ module _ (c : Card) (f : List ℕ) where
     pub command-plays : replyRoom ≤ room → broken c ≡ false → laidInto c (played (view c) f) ≡ commanded c f room
     unfolding commanded
     command-plays h b = sym (passed _ _ (le-ltb _ _ h) ∙ passed _ _ b)
+
+  -- with room for a reply, on a card that breaks no rule; k is the card after
+  module _ (b : List ℕ) (h : replyRoom ≤ length b) (u : broken c ≡ false) where
+    status-alone : {b₂ : List ℕ} {k : Card} (s : State) (status : ℕ) → k ≡ put c s → b₂ ≡ laidIn b 0 (word status)
+        → Answered (laidInto c (record { state = s; out = word status })) b b₂ (reply k 0 2)
+    unfolding laidInto replyOf
+    status-alone s status ek e =
+        let l = length-word status in
+        let q = laid-room b 0 (word status) (omega arith) in
+        (cc, cc)
+
+    pub command-refused : {b₂ : List ℕ} {k : Card} (s : ℕ) → s ≡ statusOf (view c .core) f → (s ≡ ok → ⊥) → k ≡ put c (ended (view c)) → b₂ ≡ laidIn b 0 (word s)
+        → Answered (commanded c f (length b)) b b₂ (reply k 0 2)
+    unfolding refused
+    command-refused s es n ek e = answered-as _ _ _ _ _ (plays-refused s es n ∙ command-plays _ h u) (status-alone (ended (view c)) s ek e)
+
+    module _ (s : statusOf (view c .core) f ≡ ok) where
+      accepts : laidInto c (accepted (view c) (insOf f) (dataOf f)) ≡ commanded c f (length b)
+      accepts = plays-accepted s ∙ command-plays _ h u
+
+      pub command-shows : {b₂ : List ℕ} {r : Reply} → Answered (laidInto c (accepted (view c) (insOf f) (dataOf f))) b b₂ r → Answered (commanded c f (length b)) b b₂ r
+      command-shows x = answered-as _ _ _ _ _ accepts x
+
+      pub command-quiet : {b₂ : List ℕ} {k : Card} → shows (insOf f) ≡ false → k ≡ put c (changed (view c) (insOf f) (dataOf f)) → b₂ ≡ laidIn b 0 (word ok)
+          → Answered (commanded c f (length b)) b b₂ (reply k 0 2)
+      command-quiet t ek e =
+          let q : record { state = changed (view c) (insOf f) (dataOf f); out = word ok } ≡ accepted (view c) (insOf f) (dataOf f) = unfold accepted in rw (quiet-shows-nothing (view c) (dataOf f) (insOf f) t) refl in
+          answered-as _ _ _ _ _ (ap (laidInto c) q ∙ accepts) (status-alone _ ok ek e)
 
 -- ---- the other events
 

@@ -4,7 +4,7 @@ use mathlib.Core.Bool.{Bool}
 use mathlib.Core.List.{List, [], _∷_}
 use mathlib.Core.Path.{_≡_, refl, sym, _∙_}
 use lib.ListN.{length, drop}
-use Rattle.tables.specs.Reasons.{Reason, _when_, first, NoReason, no-reason, first-refuses, first-passes}
+use Rattle.tables.specs.Reasons.{Reason, _when_, first, no-reason, first-refuses, first-passes}
 use Rattle.wire.specs.Bytes.{part}
 use Rattle.access.specs.declared.Access.{Access}
 use Rattle.frames.specs.Frame.{insOf, dataStart, dataEnd, dataOf, fileOf, wrongSize, wrongClass, wrongParameters, wrongFrame}

@@ -1,5 +1,6 @@
 // The card: personalisation, and the three events command, session change and power-up.
 use access::Session;
+use columns::table;
 use commands::rows;
 use datafiles::Files;
 use logbook::Log;
@@ -7,15 +8,17 @@ use purse::Limits;
 use purse::Purse;
 use settings::Settings;
 ghost use mathlib.Core.Path.{_≡_};
-ghost use mathlib.Core.Bool.{false};
+ghost use mathlib.Core.Bool.{true, false};
 ghost use Prim.Native.Nat.{_≤_};
 ghost use lib.ListN.{length};
 ghost use Rattle.commands.specs.Rows.{statusOf, commandStatus, ok};
+ghost use Rattle.wire.specs.Bytes.{laidIn, word};
+ghost use Rattle.columns.specs.Table.{writeData, shows};
 ghost use Rattle.effects.specs.Effects.{changed};
 ghost use Rattle.card.specs.View.{coreOf, view, put};
 ghost use Rattle.card.specs.Rules.{brokenBy, broken};
 ghost use Rattle.card.specs.Outcome.{replyOf, Answered};
-ghost use Rattle.card.specs.Events.{ended, refused, accepted, played, laidInto, replyRoom, commanded, sessionChanged, poweredUp, issued, blank, orderRefusal, personalised};
+ghost use Rattle.card.specs.Events.{ended, accepted, laidInto, replyRoom, commanded, sessionChanged, poweredUp, issued, blank, orderRefusal, personalised};
 ghost use Rattle.card.specs.Order.{frameOrder, commandOrder};
 
 pub struct Card {
@@ -209,10 +212,9 @@ impl Card {
         }
     }
 
-    // The card that an accepted command leaves.
-    fn changed(self, ins: u8, d: &[u8]) -> Card
-        requires { ⌜ commandStatus (view self .core) ins (now d) ≡ ok ⌝ }
-        ensures { λ r. ⌜ r ≡ put self (changed (view self) ins (now (d .entry))) ⌝ }
+    // The card after an accepted WriteData.
+    fn written(self, d: &[u8]) -> Card
+        ensures { λ r. ⌜ r ≡ put self (changed (view self) writeData (now (d .entry))) ⌝ }
     {
         let settings = self.settings;
         let files = self.files;
@@ -221,69 +223,48 @@ impl Card {
         let session = self.session;
         Card {
             settings,
-            files: effects::next_files(files, ins, d),
-            purse: effects::next_purse(purse, settings.limits, ins, d),
-            log: effects::next_log(log, ins, d),
+            files: effects::next_files(files, table::WRITE_DATA, d),
+            purse,
+            log,
             session,
         }
     }
 
-    // A refusal: the two status bytes.
-    fn refused(self, status: u16, reply: &mut [u8]) -> Reply
-        requires { ⌜ replyRoom ≤ length (now reply) ⌝ }
-        ensures { λ r. ⌜ Answered (laidInto self (refused (view self) status)) (now (reply .entry)) (now (reply .exit)) r ⌝ }
+    // Lays the two status bytes over the front of reply.
+    fn put_status(status: u16, reply: &mut [u8])
+        ensures { λ _. ⌜ now (reply .exit) ≡ laidIn (now (reply .entry)) 0 (word status) ⌝ }
     {
-        let card = self.ended();
         let two = wire::word_of(status);
         wire::lay(reply, 0, &two);
-        Reply {
-            card,
-            refusal: 0,
-            len: 2,
-        }
     }
 
-    // An accepted command: its data, then 9100.
-    fn accepted(self, ins: u8, d: &[u8], reply: &mut [u8]) -> Reply
-        requires { ⌜ (commandStatus (view self .core) ins (now d) ≡ ok) × (broken self ≡ false) × (replyRoom ≤ length (now reply)) ⌝ }
+    // An accepted command that shows something: its data, then 9100.
+    fn shown(self, ins: u8, d: &[u8], reply: &mut [u8]) -> Reply
+        requires { ⌜ (shows ins ≡ true) × (commandStatus (view self .core) ins (now d) ≡ ok) × (broken self ≡ false) × (replyRoom ≤ length (now reply)) ⌝ }
         ensures { λ r. ⌜ Answered (laidInto self (accepted (view self) ins (now (d .entry)))) (now (reply .entry)) (now (reply .exit)) r ⌝ }
     {
         let files = self.files;
         let purse = self.purse;
         let log = self.log;
         let n = effects::show(files, purse.value, log, ins, d, reply);
-        let card = self.changed(ins, d);
         let two = wire::word_of(Card::OK);
         wire::lay(reply, n, &two);
         Reply {
-            card,
+            card: self,
             refusal: 0,
             len: n + 2,
         }
     }
 
-    // Refused with the status of the first reason that applies, or accepted.
-    fn judged(self, frame: &[u8], reply: &mut [u8]) -> Reply
-        requires { ⌜ (broken self ≡ false) × (replyRoom ≤ length (now reply)) ⌝ }
-        ensures { λ r. ⌜ Answered (laidInto self (played (view self) (now (frame .entry)))) (now (reply .entry)) (now (reply .exit)) r ⌝ }
+    // A command, with a buffer for its reply. Each way out makes its card once: the files are long, and a copy of them costs
+    // more than all tests.
+    pub fn command(self, frame: &[u8], reply: &mut [u8]) -> Reply
+        ensures { λ r. ⌜ Answered (commanded self (now (frame .entry)) (length (now (reply .entry)))) (now (reply .entry)) (now (reply .exit)) r ⌝ }
     {
         let settings = self.settings;
         let purse = self.purse;
         let log = self.log;
         let session = self.session;
-        let status = Card::status(settings, purse, log, session, frame);
-        if status != Card::OK {
-            return self.refused(status, reply);
-        }
-        let a = frames::data_start(frame.len());
-        let e = frames::data_end(frame.len());
-        self.accepted(wire::byte_at(frame, 1), &frame[a..e], reply)
-    }
-
-    // A command, with a buffer for its reply.
-    pub fn command(self, frame: &[u8], reply: &mut [u8]) -> Reply
-        ensures { λ r. ⌜ Answered (commanded self (now (frame .entry)) (length (now (reply .entry)))) (now (reply .entry)) (now (reply .exit)) r ⌝ }
-    {
         if reply.len() < Card::REPLY_ROOM {
             return Reply {
                 card: self,
@@ -291,10 +272,6 @@ impl Card {
                 len: 0,
             };
         }
-        let settings = self.settings;
-        let purse = self.purse;
-        let log = self.log;
-        let session = self.session;
         if Card::breaks(settings, purse, log, session) {
             return Reply {
                 card: self,
@@ -302,7 +279,45 @@ impl Card {
                 len: 0,
             };
         }
-        self.judged(frame, reply)
+        let status = Card::status(settings, purse, log, session, frame);
+        if status != Card::OK {
+            Card::put_status(status, reply);
+            let card = self.ended();
+            return Reply {
+                card,
+                refusal: 0,
+                len: 2,
+            };
+        }
+        let ins = wire::byte_at(frame, 1);
+        let a = frames::data_start(frame.len());
+        let e = frames::data_end(frame.len());
+        let d = &frame[a..e];
+        if columns::shows(ins) {
+            return self.shown(ins, d, reply);
+        }
+        Card::put_status(Card::OK, reply);
+        if ins == table::WRITE_DATA {
+            let card = self.written(d);
+            return Reply {
+                card,
+                refusal: 0,
+                len: 2,
+            };
+        }
+        let files = self.files;
+        let card = Card {
+            settings,
+            files,
+            purse: effects::next_purse(purse, settings.limits, ins, d),
+            log: effects::next_log(log, ins, d),
+            session,
+        };
+        Reply {
+            card,
+            refusal: 0,
+            len: 2,
+        }
     }
 
     // A session change: a key 0 to 4, or none.

@@ -57,6 +57,10 @@ onFile i = onData i || onValue i || onLog i
 abbrev pub ends : ℕ → Bool
 ends i = eqb i commitTransaction || eqb i abortTransaction
 
+-- the commands whose reply has data; they change nothing
+abbrev pub shows : ℕ → Bool
+shows i = eqb i readData || eqb i getValue || eqb i readRecords
+
 -- ---- granted by: R, W as listed; RW grants every command on a file
 
 abbrev pub byRead : ℕ → Bool

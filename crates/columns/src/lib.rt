@@ -3,7 +3,7 @@ pub mod table;
 
 use datafiles::Files;
 ghost use mathlib.Core.Path.{_≡_};
-ghost use Rattle.columns.specs.Table.{onData, onValue, onLog, onFile, ends, byRead, byWrite, isData, isFile, suits};
+ghost use Rattle.columns.specs.Table.{onData, onValue, onLog, onFile, ends, byRead, byWrite, isData, isFile, suits, shows};
 
 pub fn on_data(ins: u8) -> bool
     ensures { λ r. ⌜ r ≡ onData ins ⌝ }
@@ -80,4 +80,11 @@ pub fn suits_file(ins: u8, n: u8) -> bool
     let value = on_value(ins);
     let log = on_log(ins);
     (data & bytes) | (value & (n == table::VALUE_03)) | (log & (n == table::LOG_01))
+}
+
+// Whether the command's reply has data.
+pub fn shows(ins: u8) -> bool
+    ensures { λ r. ⌜ r ≡ shows ins ⌝ }
+{
+    (ins == table::READ_DATA) | (ins == table::GET_VALUE) | (ins == table::READ_RECORDS)
 }

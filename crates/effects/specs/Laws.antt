@@ -1,19 +1,18 @@
 -- Where a command is accepted, what the functions answer is what the rules say.
 use Prim.Native.Nat.{ℕ, _≤_}
-use mathlib.Core.Bool.{Bool, true, false, not, _||_}
+use mathlib.Core.Bool.{Bool, true, false, _||_}
 use mathlib.Core.List.{List, [], _∷_}
-use mathlib.Core.Path.{_≡_, refl, sym, subst}
+use mathlib.Core.Path.{_≡_, refl, sym, subst, _∙_}
 use borrow.Author.Tests.{eqb-true, not-false, ltb-false, le-leb, le-ltb}
 use lib.Dec.{eqb, ltb}
-use lib.IntN.{ℤ, pos, _+ℤ_, _-ℤ_}
+use lib.IntN.{ℤ, pos, _+ℤ_}
 use lib.ListN.{length}
 use mir.Syntax.{w32}
 use mir.Val.{ofZ}
 use native.Mathlib.Omega.{arith}
-use Rattle.tables.specs.Choice.{pick, any, picked, passed, pick-alike, pick-cases, and-both, or-none, or-no}
+use Rattle.tables.specs.Choice.{pick, none, picked, passed, pick-alike, pick-cases, or-none, or-no}
 use Rattle.wire.specs.Bytes.{four, outsideOf}
 use Rattle.wire.specs.Laws.{length-four}
-use Rattle.datafiles.specs.declared.Files.{Files}
 use Rattle.datafiles.specs.Files as files
 use Rattle.datafiles.specs.Laws as datafiles
 use Rattle.purse.specs.declared.Limits.{Limits}
@@ -21,18 +20,17 @@ use Rattle.purse.specs.declared.Purse.{Purse}
 use Rattle.purse.specs.Guarded.{creditIn, debitIn, rebookIn}
 use Rattle.purse.specs.Purse.{within, credited, debited, rebooked}
 use Rattle.logbook.specs.declared.Log.{Log}
-use Rattle.logbook.specs.Journal.{Journal}
 use Rattle.logbook.specs.Journal as journal
 use Rattle.logbook.specs.View as log
 use Rattle.logbook.specs.Entries.{length-cut}
 use Rattle.logbook.specs.Fit.{Fit}
 use Rattle.logbook.specs.FitLaws.{shown-room}
 use Rattle.frames.specs.Frame.{fileOf, offsetOf, lengthOf, amountOf}
-use Rattle.columns.specs.Table.{readData, getValue, credit, debit, limitedCredit, readRecords, commitTransaction, abortTransaction}
+use Rattle.columns.specs.Table.{readData, getValue, credit, debit, limitedCredit, readRecords, shows}
 use Rattle.commands.specs.State.{Core, State}
 use Rattle.commands.specs.Rows.{outside, ok, commandStatus}
 use Rattle.commands.specs.Laws.{inside, read-inside, entries-inside, credit-inside, debit-inside, rebook-inside}
-use Rattle.effects.specs.Effects.{purseAfter, shown}
+use Rattle.effects.specs.Effects.{purseAfter, journalAfter, filesAfter, changed, shown}
 use Rattle.effects.specs.Guarded.{purseIn, valueIn, shownIn}
 
 -- ---- the value file
@@ -115,3 +113,24 @@ shown-small s i d fit e =
     (λ _. pick-cases (λ (x : List ℕ). length x ≤ 256) _ _ _ (λ t. omega (arith, length-four (ofZ w32 (c .purse .value))))
     (λ _. pick-cases (λ (x : List ℕ). length x ≤ 256) _ _ _ (λ t. omega (arith, shown-room (c .journal) (offsetOf d) (lengthOf d) fit))
     (λ _. omega arith)))
+
+-- ---- what a command that shows changes, and what another shows: nothing
+
+module _ (s : State) (d : List ℕ) where
+  by-one : (i k : ℕ) → changed s k d ≡ s → eqb i k ≡ true → changed s i d ≡ s
+  by-one i k e t = subst (λ (j : ℕ). changed s j d ≡ s) (sym (eqb-true i k t)) e
+
+  pub shows-changes-nothing : (i : ℕ) → shows i ≡ true → changed s i d ≡ s
+  unfolding changed purseAfter journalAfter filesAfter pick
+  shows-changes-nothing i e = by (eqb i readData) (eqb i getValue) (eqb i readRecords) (by-one i readData refl) (by-one i getValue refl) (by-one i readRecords refl) e
+    where
+      by : (a b c : Bool) {P : Type 0} → (a ≡ true → P) → (b ≡ true → P) → (c ≡ true → P) → (a || b || c) ≡ true → P
+      by true b c p q r e = p refl
+      by false true c p q r e = q refl
+      by false false c p q r e = r e
+
+  pub quiet-shows-nothing : (i : ℕ) → shows i ≡ false → shown s i d ≡ []
+  unfolding shown
+  quiet-shows-nothing i e =
+      let n = none (eqb i readData ∷ eqb i getValue ∷ eqb i readRecords ∷ []) e in
+      passed _ _ (n .0) ∙ passed _ _ (n .1 .0) ∙ passed _ _ (n .1 .1 .0)

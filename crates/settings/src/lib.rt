@@ -60,11 +60,18 @@ impl Settings {
     pub fn has_wrong_rights(self) -> bool
         ensures { λ r. ⌜ r ≡ rightsBroken self ⌝ }
     {
-        let a = access::rights_are_sound(self.r00);
-        let b = access::rights_are_sound(self.r04);
-        let c = access::rights_are_sound(self.r1f);
-        let d = access::rights_are_sound(self.r03);
-        let e = access::rights_are_sound(self.r01);
-        !a | !b | !c | !d | !e
+        if !access::rights_are_sound(self.r00) {
+            return true;
+        }
+        if !access::rights_are_sound(self.r04) {
+            return true;
+        }
+        if !access::rights_are_sound(self.r1f) {
+            return true;
+        }
+        if !access::rights_are_sound(self.r03) {
+            return true;
+        }
+        !access::rights_are_sound(self.r01)
     }
 }

@@ -4,7 +4,7 @@ use Rattle.card.proofs.Card.blank.Statement.{statement}
 use Rattle.card.proofs.Card.blank.Tie as tie
 
 issued-requires : tie.Need-issued-requires
-issued-requires c κs = search needs
+issued-requires c κs = tt
 
 returns : tie.Need-returns
 unfolding blank blankSettings

@@ -1,26 +1,25 @@
 use Rattle.card.specs.Rules.{brokenBy}
-use borrow.Author.Needs.{needs}
 use Rattle.card.proofs.Card.breaks.Statement.{statement}
 use Rattle.card.proofs.Card.breaks.Tie as tie
 
 has-wrong-rights-requires : tie.Need-has-wrong-rights-requires
-has-wrong-rights-requires c κs = search needs
+has-wrong-rights-requires c κs = tt
 
 are-crossed-requires : tie.Need-are-crossed-requires
-are-crossed-requires c κs = search needs
+are-crossed-requires c κs = tt
 
 is-sound-requires : tie.Need-is-sound-requires
-is-sound-requires c κs = search needs
+is-sound-requires c κs = tt
 
 breaks-requires : tie.Need-breaks-requires
-breaks-requires c κs = search needs
+breaks-requires c κs = tt
 
 breaks-requires-2 : tie.Need-breaks-requires-2
-breaks-requires-2 c κs = search needs
+breaks-requires-2 c κs = tt
 
 returns : tie.Need-returns
 unfolding brokenBy
-returns c = cc
+returns c = simp (c .before .before .before .before .before .has-wrong-rights .ensures, c .before .before .before .before .are-crossed .ensures, c .before .before .before .is-sound .ensures, c .before .before .breaks .ensures, c .breaks2 .ensures)
 
 pub breaks-spec : {M : Type 1} → statement M
 breaks-spec =

@@ -7,40 +7,40 @@ use Rattle.card.proofs.Card.command_status.Statement.{statement}
 use Rattle.card.proofs.Card.command_status.Tie as tie
 
 byte-at-requires : tie.Need-byte-at-requires
-byte-at-requires c κs = search needs
+byte-at-requires c κs = tt
 
 access-to-requires : tie.Need-access-to-requires
-access-to-requires c κs = search needs
+access-to-requires c κs = tt
 
 unknown-command-requires : tie.Need-unknown-command-requires
-unknown-command-requires c κs = search needs
+unknown-command-requires c κs = tt
 
 wrong-length-requires : tie.Need-wrong-length-requires
-wrong-length-requires c κs = search needs
+wrong-length-requires c κs = tt
 
 unknown-file-requires : tie.Need-unknown-file-requires
-unknown-file-requires c κs = search needs
+unknown-file-requires c κs = tt
 
 other-kind-or-never-requires : tie.Need-other-kind-or-never-requires
-other-kind-or-never-requires c κs = search needs
+other-kind-or-never-requires c κs = tt
 
 not-granted-requires : tie.Need-not-granted-requires
-not-granted-requires c κs = search needs
+not-granted-requires c κs = tt
 
 switched-off-requires : tie.Need-switched-off-requires
-switched-off-requires c κs = search needs
+switched-off-requires c κs = tt
 
 bad-parameter-requires : tie.Need-bad-parameter-requires
-bad-parameter-requires c κs = search needs
+bad-parameter-requires c κs = tt
 
 is-outside-requires : tie.Need-is-outside-requires
-is-outside-requires c κs = search needs
+is-outside-requires c κs = tt
 
 nothing-pending-requires : tie.Need-nothing-pending-requires
-nothing-pending-requires c κs = search needs
+nothing-pending-requires c κs = tt
 
 command-order-requires : tie.Need-command-order-requires
-command-order-requires c κs = search needs
+command-order-requires c κs = tt
 
 returns : tie.Need-returns
 unfolding view

@@ -1,21 +1,21 @@
+use mathlib.Core.Path.{refl}
 use Rattle.card.specs.Events.{issued}
 use mir.Facts.{toZ-ofZ}
-use borrow.Author.Needs.{needs}
 use Rattle.card.proofs.Card.issued.Statement.{statement}
 use Rattle.card.proofs.Card.issued.Tie as tie
 
 zeros-requires : tie.Need-zeros-requires
-zeros-requires c κs = search needs
+zeros-requires c κs = tt
 
 resting-requires : tie.Need-resting-requires
-resting-requires c κs = search needs
+resting-requires c κs = tt
 
 empty-requires : tie.Need-empty-requires
-empty-requires c κs = search needs
+empty-requires c κs = tt
 
 returns : tie.Need-returns
 unfolding issued
-returns c = cc (toZ-ofZ (c .before .before .before .fits .value))
+returns c = rw (c .before .before .zeros .ensures, c .before .resting .ensures, c .empty .ensures, toZ-ofZ (c .before .before .before .fits .value)) refl
 
 pub issued-spec : {M : Type 1} → statement M
 issued-spec = tie.close (tie.spec zeros-requires resting-requires empty-requires returns)

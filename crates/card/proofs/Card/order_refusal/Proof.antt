@@ -1,55 +1,48 @@
+use Rattle.tables.specs.Choice.{hit, skip}
+use mathlib.Core.Path.{refl, sym, ap, _∙_}
 use Rattle.card.specs.Events.{orderRefusal}
-use Rattle.settings.specs.Settings.{rightsBroken}
-use Rattle.purse.specs.Purse.{crossed, within}
-use Rattle.tables.specs.Choice.{choice}
+use Rattle.purse.specs.Purse.{within}
 use mir.Facts.{toZ-ofZ}
-use mathlib.Core.Bool.{true, false, not}
-use mathlib.Core.Path.{_≡_}
-use borrow.Author.Needs.{needs}
+use mathlib.Core.Bool.{not}
 use Rattle.card.proofs.Card.order_refusal.Statement.{statement}
 use Rattle.card.proofs.Card.order_refusal.Tie as tie
 
 has-wrong-rights-requires : tie.Need-has-wrong-rights-requires
-has-wrong-rights-requires c κs = search needs
+has-wrong-rights-requires c κs = tt
 
 are-crossed-requires : tie.Need-are-crossed-requires
-are-crossed-requires c κs = search needs
+are-crossed-requires c κs = tt
 
 hold-requires : tie.Need-hold-requires
-hold-requires c κs = search needs
+hold-requires c κs = tt
 
 returns : tie.Need-returns
 unfolding orderRefusal
-returns c =
-    let s = c .before .before .before .before .before .args .settings in
-    let r : rightsBroken s ≡ true = cc in
-    search choice
+returns c = hit _ _ _ (sym (c .before .before .before .has-wrong-rights .ensures) ∙ c .if1 .taken) refl
 
 returns-2 : tie.Need-returns-2
 unfolding orderRefusal
 returns-2 c =
-    let s = c .before .before .before .before .before .before .args .settings in
-    let r : rightsBroken s ≡ false = cc in
-    let x : crossed (s .limits) ≡ true = cc in
-    search choice
+    skip _ _ _ (sym (c .before .before .before .before .has-wrong-rights .ensures) ∙ c .before .if1 .left)
+    (hit _ _ _ (sym (c .before .before .before .are-crossed .ensures) ∙ c .if2 .taken) refl)
 
 returns-3 : tie.Need-returns-3
 unfolding orderRefusal
 returns-3 c =
-    let s = c .before .before .before .before .before .before .before .args .settings in
-    let r : rightsBroken s ≡ false = cc in
-    let x : crossed (s .limits) ≡ false = cc in
-    let h : not (within (s .limits) (c .before .before .before .before .before .before .before .args .value)) ≡ true = cc (toZ-ofZ (c .before .before .before .before .before .before .before .fits .value)) in
-    search choice
+    let s = c .before .before .before .before .before .before .before in
+    let h = c .before .before .before .hold .ensures ∙ ap (within (s .args .settings .limits)) (toZ-ofZ (s .fits .value)) in
+    skip _ _ _ (sym (c .before .before .before .before .before .has-wrong-rights .ensures) ∙ c .before .before .if1 .left)
+    (skip _ _ _ (sym (c .before .before .before .before .are-crossed .ensures) ∙ c .before .if2 .left)
+    (hit _ _ _ (sym (ap not h) ∙ c .if3 .taken) refl))
 
 returns-4 : tie.Need-returns-4
 unfolding orderRefusal
 returns-4 c =
-    let s = c .before .before .before .before .before .before .before .args .settings in
-    let r : rightsBroken s ≡ false = cc in
-    let x : crossed (s .limits) ≡ false = cc in
-    let h : not (within (s .limits) (c .before .before .before .before .before .before .before .args .value)) ≡ false = cc (toZ-ofZ (c .before .before .before .before .before .before .before .fits .value)) in
-    search choice
+    let s = c .before .before .before .before .before .before .before in
+    let h = c .before .before .before .hold .ensures ∙ ap (within (s .args .settings .limits)) (toZ-ofZ (s .fits .value)) in
+    skip _ _ _ (sym (c .before .before .before .before .before .has-wrong-rights .ensures) ∙ c .before .before .if1 .left)
+    (skip _ _ _ (sym (c .before .before .before .before .are-crossed .ensures) ∙ c .before .if2 .left)
+    (skip _ _ _ (sym (ap not h) ∙ c .if3 .left) refl))
 
 pub order-refusal-spec : {M : Type 1} → statement M
 order-refusal-spec =

@@ -12,19 +12,19 @@ use Rattle.card.proofs.Card.status.Statement.{statement}
 use Rattle.card.proofs.Card.status.Tie as tie
 
 wrong-size-requires : tie.Need-wrong-size-requires
-wrong-size-requires c κs = search needs
+wrong-size-requires c κs = tt
 
 wrong-class-requires : tie.Need-wrong-class-requires
-wrong-class-requires c κs = search needs
+wrong-class-requires c κs = tt
 
 wrong-parameters-requires : tie.Need-wrong-parameters-requires
-wrong-parameters-requires c κs = search needs
+wrong-parameters-requires c κs = tt
 
 wrong-frame-requires : tie.Need-wrong-frame-requires
-wrong-frame-requires c κs = search needs
+wrong-frame-requires c κs = tt
 
 frame-order-requires : tie.Need-frame-order-requires
-frame-order-requires c κs = search needs
+frame-order-requires c κs = tt
 
 returns : tie.Need-returns
 returns c =
@@ -33,13 +33,13 @@ returns c =
     frame-refuses _ f e (c .if1 .taken)
 
 data-start-requires : tie.Need-data-start-requires
-data-start-requires c κs = search needs
+data-start-requires c κs = tt
 
 data-end-requires : tie.Need-data-end-requires
-data-end-requires c κs = search needs
+data-end-requires c κs = tt
 
 byte-at-requires : tie.Need-byte-at-requires
-byte-at-requires c κs = search needs
+byte-at-requires c κs = tt
 
 sub-command-status : tie.Need-sub-command-status
 sub-command-status c = let h = data-inside (length (now (c .before .before .before .before .before .before .before .before .before .before .args .frame))) in omega arith
@@ -51,7 +51,7 @@ part-command-status-end : tie.Need-part-command-status-end
 part-command-status-end c = let h = data-inside (length (now (c .before .before .before .before .before .before .before .before .before .before .args .frame))) in omega arith
 
 command-status-requires : tie.Need-command-status-requires
-command-status-requires c κs = search needs
+command-status-requires c κs = tt
 
 returns-2 : tie.Need-returns-2
 returns-2 c =

@@ -1,0 +1,25 @@
+use mathlib.Core.Path.{_∙_, ap}
+use Rattle.wire.specs.Bytes.{laidIn}
+use denote.Ref.{now}
+use borrow.Author.Needs.{needs}
+use Rattle.card.proofs.Card.put_status.Statement.{statement}
+use Rattle.card.proofs.Card.put_status.Tie as tie
+
+word-of-requires : tie.Need-word-of-requires
+word-of-requires c κs = tt
+
+slice-aggregate-lay : tie.Need-slice-aggregate-lay
+slice-aggregate-lay c = search needs
+
+lay-requires : tie.Need-lay-requires
+lay-requires c κs = tt
+
+same-length : tie.Need-same-length
+same-length c = search needs
+
+returns : tie.Need-returns
+returns c = c .before .before .lay .ensures ∙ ap (laidIn (now (c .before .before .before .before .before .before .before .args .reply)) 0) (c .before .before .before .before .before .word-of .ensures)
+
+pub put-status-spec : {M : Type 1} → statement M
+put-status-spec =
+    tie.close (tie.spec word-of-requires slice-aggregate-lay lay-requires same-length returns)
