@@ -1,7 +1,7 @@
 -- Laws of the card's parts and events, as the code goes through them.
 use Prim.Native.Nat.{ℕ, _+_, _≤_, _<_}
-use mathlib.Core.Bool.{Bool, true, false, not, _||_}
-use mathlib.Core.List.{List, [], _∷_, _++_}
+use mathlib.Core.Bool.{true, false, not}
+use mathlib.Core.List.{List, [], _++_}
 use mathlib.Core.Path.{_≡_, refl, sym, ap, _∙_}
 use borrow.Author.Tests.{lt-ltb, le-ltb, eq-eqb, ne-eqb}
 use lib.Dec.{eqb}
@@ -22,7 +22,7 @@ use Rattle.access.specs.Rights.{sessionSound}
 use Rattle.columns.specs.Table.{writeData, shows}
 use Rattle.frames.specs.Frame.{insOf, dataOf}
 use Rattle.settings.specs.declared.Settings.{Settings}
-use Rattle.commands.specs.State.{State, logPending}
+use Rattle.commands.specs.State.{State}
 use Rattle.commands.specs.Rows.{ok, statusOf, commandStatus}
 use Rattle.effects.specs.Effects.{purseAfter, journalAfter, filesAfter, changed, shown}
 use Rattle.effects.specs.Guarded.{purseIn, shownIn}
@@ -33,15 +33,6 @@ use Rattle.card.specs.View.{view, put}
 use Rattle.card.specs.Rules.{rules, brokenBy, broken}
 use Rattle.card.specs.Outcome.{Outcome, replyOf, Answered, bench}
 use Rattle.card.specs.Events.{ended, refused, accepted, played, laidInto, replyRoom, commanded, withSession, sessionChanged, poweredUp, issued, blank, orderRefusal, personalised}
-
--- what is pending on the log by its two flags
-pub pending-view : (l : Log) → logPending (log.view l) ≡ (l .adds || l .clears)
-unfolding logPending log.view log.some pick
-pending-view l = by (l .adds)
-  where
-    by : (b : Bool) → (log.some (pick b (l .entry ∷ []) []) || l .clears) ≡ (b || l .clears)
-    by true = refl
-    by false = refl
 
 -- a card is the state that it stands for, laid into it
 pub put-view : (c : Card) → put c (view c) ≡ c

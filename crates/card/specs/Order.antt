@@ -6,11 +6,11 @@ use mathlib.Core.Path.{_≡_, refl, sym, _∙_}
 use lib.ListN.{length, drop}
 use Rattle.tables.specs.Reasons.{Reason, _when_, first, no-reason, first-refuses, first-passes}
 use Rattle.wire.specs.Bytes.{part}
-use Rattle.access.specs.declared.Access.{Access}
-use Rattle.frames.specs.Frame.{insOf, dataStart, dataEnd, dataOf, fileOf, wrongSize, wrongClass, wrongParameters, wrongFrame}
-use Rattle.settings.specs.Settings.{accessTo}
-use Rattle.commands.specs.State.{Core, logPending}
-use Rattle.commands.specs.Rows.{unknownCommand, wrongLength, unknownFile, otherKindOrNever, notGranted, switchedOff, badParameter, outside, nothingPending, rowsOf, ok, statusOf, commandStatus}
+use Rattle.frames.specs.Frame.{insOf, dataStart, dataEnd, dataOf, wrongSize, wrongClass, wrongParameters, wrongFrame}
+use Rattle.commands.specs.declared.Places.{Places}
+use Rattle.commands.specs.State.{Core}
+use Rattle.commands.specs.Places.{placesOf}
+use Rattle.commands.specs.Rows.{rowsOf, ok, statusOf, commandStatus}
 
 -- places 1 to 4
 abbrev pub framePart : Bool → Bool → Bool → Bool → List Reason
@@ -40,16 +40,12 @@ commandOrder command length file kind grant off value range nothing =
     ∷ [])
     ok
 
--- the command's status from the tests' answers, where they were asked of the file number n, the access a, a log of so many
--- entries and whether something is pending on it
-pub command-by : (c : Core) (i : ℕ) (d : List ℕ) {n entries r : ℕ} {a : Access} {pending : Bool} {v1 v2 v3 v4 v5 v6 v7 v8 v9 : Bool}
-    → n ≡ fileOf d → a ≡ accessTo (c .settings) (c .session) i n → length (c .journal .entries) ≡ entries → logPending (c .journal) ≡ pending
-    → r ≡ commandOrder v1 v2 v3 v4 v5 v6 v7 v8 v9
-    → v1 ≡ unknownCommand i → v2 ≡ wrongLength i d → v3 ≡ unknownFile i n → v4 ≡ otherKindOrNever i n a → v5 ≡ notGranted i a
-    → v6 ≡ switchedOff i (c .settings .limited) (c .journal .clears) → v7 ≡ badParameter i d
-    → v8 ≡ outside (c .settings .limits) (c .purse) entries i d → v9 ≡ nothingPending i (c .purse .moved) pending → r ≡ commandStatus c i d
-unfolding commandStatus rowsOf commandOrder
-command-by c i d en ea el ep e e1 e2 e3 e4 e5 e6 e7 e8 e9 = cc
+abbrev pub inOrder : Places → ℕ
+inOrder p = commandOrder (p .command) (p .length) (p .file) (p .kind) (p .grant) (p .off) (p .value) (p .range) (p .nothing)
+
+command-by : (c : Core) (i : ℕ) (d : List ℕ) {r : ℕ} {p : Places} → p ≡ placesOf c i d → r ≡ inOrder p → r ≡ commandStatus c i d
+unfolding commandStatus rowsOf commandOrder placesOf
+command-by c i d e q = rw e at q
 
 module _ (c : Core) (f : List ℕ) where
   frames : List Reason
@@ -59,7 +55,7 @@ module _ (c : Core) (f : List ℕ) where
   unfolding frameOrder statusOf rowsOf frames
   frame-refuses e n = e ∙ first-refuses frames (drop 4 (rowsOf c [] (insOf f) (dataOf f))) ok (λ q. n (e ∙ q))
 
-  pub frame-passes : {r i a e : ℕ} → frameOrder (wrongSize f) (wrongClass f) (wrongParameters f) (wrongFrame f) ≡ ok
-      → i ≡ insOf f → a ≡ dataStart (length f) → e ≡ dataEnd (length f) → r ≡ commandStatus c i (part f a e) → r ≡ statusOf c f
+  pub frame-passes : {r i a e : ℕ} {p : Places} → frameOrder (wrongSize f) (wrongClass f) (wrongParameters f) (wrongFrame f) ≡ ok
+      → i ≡ insOf f → a ≡ dataStart (length f) → e ≡ dataEnd (length f) → p ≡ placesOf c i (part f a e) → r ≡ inOrder p → r ≡ statusOf c f
   unfolding frameOrder statusOf commandStatus rowsOf frames
-  frame-passes e ei ea ee q = q ∙ rw (ei, ea, ee) (sym (first-passes frames (drop 4 (rowsOf c [] (insOf f) (dataOf f))) ok (no-reason frames ok refl e)))
+  frame-passes e ei ea ee k q = command-by c _ _ k q ∙ rw (ei, ea, ee) (sym (first-passes frames (drop 4 (rowsOf c [] (insOf f) (dataOf f))) ok (no-reason frames ok refl e)))

@@ -1,7 +1,7 @@
 // The card: personalisation, and the three events command, session change and power-up.
 use access::Session;
 use columns::table;
-use commands::rows;
+use commands::Places;
 use datafiles::Files;
 use logbook::Log;
 use purse::Limits;
@@ -132,32 +132,6 @@ impl Card {
         Card::OK
     }
 
-    // The status of the command ins with the data field d.
-    fn command_status(
-        settings: Settings,
-        purse: Purse,
-        log: Log,
-        session: Session,
-        ins: u8,
-        d: &[u8],
-    ) -> u16
-        ensures { λ r. ⌜ r ≡ commandStatus (coreOf settings purse log session) ins (now (d .entry)) ⌝ }
-    {
-        let n = wire::byte_at(d, 0);
-        let access = settings.access_to(session, ins, n);
-        Card::command_order(
-            rows::unknown_command(ins),
-            rows::wrong_length(ins, d),
-            rows::unknown_file(ins, n),
-            rows::other_kind_or_never(ins, n, access),
-            rows::not_granted(ins, access),
-            rows::switched_off(ins, settings.limited, log.clears),
-            rows::bad_parameter(ins, d),
-            rows::is_outside(settings.limits, purse, log.count, ins, d),
-            rows::nothing_pending(ins, purse.moved, log.adds | log.clears),
-        )
-    }
-
     // The status of a frame.
     fn status(settings: Settings, purse: Purse, log: Log, session: Session, frame: &[u8]) -> u16
         ensures { λ r. ⌜ r ≡ statusOf (coreOf settings purse log session) (now (frame .entry)) ⌝ }
@@ -173,13 +147,18 @@ impl Card {
         }
         let a = frames::data_start(frame.len());
         let e = frames::data_end(frame.len());
-        Card::command_status(
-            settings,
-            purse,
-            log,
-            session,
-            wire::byte_at(frame, 1),
-            &frame[a..e],
+        let ins = wire::byte_at(frame, 1);
+        let p = Places::asked(settings, purse, log, session, ins, &frame[a..e]);
+        Card::command_order(
+            p.command,
+            p.length,
+            p.file,
+            p.kind,
+            p.grant,
+            p.off,
+            p.value,
+            p.range,
+            p.nothing,
         )
     }
     // Whether a standing rule is broken.

@@ -1,3 +1,5 @@
 pub mod State
 pub mod Rows
+pub mod Places
 pub mod Laws
+pub mod PlacesLaws

@@ -22,13 +22,13 @@ use Rattle.purse.specs.Purse.{within, credited, debited, rebooked}
 use Rattle.logbook.specs.declared.Log.{Log}
 use Rattle.logbook.specs.Journal as journal
 use Rattle.logbook.specs.View as log
-use Rattle.logbook.specs.Entries.{length-cut}
 use Rattle.logbook.specs.Fit.{Fit}
 use Rattle.logbook.specs.FitLaws.{shown-room}
 use Rattle.frames.specs.Frame.{fileOf, offsetOf, lengthOf, amountOf}
 use Rattle.columns.specs.Table.{readData, getValue, credit, debit, limitedCredit, readRecords, shows}
 use Rattle.commands.specs.State.{Core, State}
 use Rattle.commands.specs.Rows.{outside, ok, commandStatus}
+use Rattle.commands.specs.PlacesLaws.{entries-view}
 use Rattle.commands.specs.Laws.{inside, read-inside, entries-inside, credit-inside, debit-inside, rebook-inside}
 use Rattle.effects.specs.Effects.{purseAfter, journalAfter, filesAfter, changed, shown}
 use Rattle.effects.specs.Guarded.{purseIn, valueIn, shownIn}
@@ -68,10 +68,6 @@ pub purse-accepted : (c : Core) (i : ℕ) (d : List ℕ) → commandStatus c i d
 purse-accepted c i d e = purse-inside (c .settings .limits) (c .purse) (length (c .journal .entries)) d i (inside c i d e)
 
 -- ---- what is shown
-
-pub entries-view : (l : Log) → length (log.view l .entries) ≡ l .count
-unfolding log.view
-entries-view l = length-cut (l .count) (l .slots)
 
 module _ (room : ℕ) (s : State) (l : Log) (d : List ℕ) (j : s .core .journal ≡ log.view l) (k : 256 ≤ room) (b : log.broken l ≡ false) where
   data-shown : outsideOf (files.sizeOf (fileOf d)) (offsetOf d) (lengthOf d) ≡ false

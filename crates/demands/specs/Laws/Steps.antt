@@ -23,7 +23,8 @@ use Rattle.card.specs.View.{view, put}
 use Rattle.card.specs.Rules.{rules, brokenBy}
 use Rattle.card.specs.Outcome.{Outcome}
 use Rattle.card.specs.Events.{Played, ended, refused, accepted, played, laidInto, withSession, sessionChanged, poweredUp}
-use Rattle.card.specs.Laws.{pending-view, command-plays}
+use Rattle.commands.specs.PlacesLaws.{pending-view}
+use Rattle.card.specs.Laws.{command-plays}
 use Rattle.demands.specs.History.{Event, command, session, power, outcome, next, run, along}
 use Rattle.demands.specs.Demands.{Kept}
 use Rattle.demands.specs.Laws.Sound.{Sound, fresh-sized, changed-sound, ended-sound, session-sound}

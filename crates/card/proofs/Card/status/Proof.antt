@@ -1,13 +1,10 @@
-use Rattle.card.specs.Order.{order-of}
-use mathlib.Core.Path.{sym, _∙_}
-use Rattle.card.specs.Order.{frameOrder, frame-refuses, frame-passes}
+use Rattle.card.specs.Order.{frameOrder, order-of, frame-refuses, frame-passes}
 use Rattle.frames.specs.Laws.{data-inside}
 use Rattle.frames.specs.Frame.{wrongSize, wrongClass, wrongParameters, wrongFrame}
-use mathlib.Core.Path.{_≡_}
+use mathlib.Core.Path.{_≡_, sym, _∙_}
 use lib.ListN.{length}
 use denote.Ref.{now}
 use native.Mathlib.Omega.{arith}
-use borrow.Author.Needs.{needs}
 use Rattle.card.proofs.Card.status.Statement.{statement}
 use Rattle.card.proofs.Card.status.Tie as tie
 
@@ -41,23 +38,26 @@ data-end-requires c κs = tt
 byte-at-requires : tie.Need-byte-at-requires
 byte-at-requires c κs = tt
 
-sub-command-status : tie.Need-sub-command-status
-sub-command-status c = let h = data-inside (length (now (c .before .before .before .before .before .before .before .before .before .before .args .frame))) in omega arith
+sub-asked : tie.Need-sub-asked
+sub-asked c = let h = data-inside (length (now (c .before .before .before .before .before .before .before .before .before .before .args .frame))) in omega arith
 
-part-command-status-start : tie.Need-part-command-status-start
-part-command-status-start c = let h = data-inside (length (now (c .before .before .before .before .before .before .before .before .before .before .args .frame))) in omega arith
+part-asked-start : tie.Need-part-asked-start
+part-asked-start c = let h = data-inside (length (now (c .before .before .before .before .before .before .before .before .before .before .args .frame))) in omega arith
 
-part-command-status-end : tie.Need-part-command-status-end
-part-command-status-end c = let h = data-inside (length (now (c .before .before .before .before .before .before .before .before .before .before .args .frame))) in omega arith
+part-asked-end : tie.Need-part-asked-end
+part-asked-end c = let h = data-inside (length (now (c .before .before .before .before .before .before .before .before .before .before .args .frame))) in omega arith
 
-command-status-requires : tie.Need-command-status-requires
-command-status-requires c κs = tt
+asked-requires : tie.Need-asked-requires
+asked-requires c κs = tt
+
+command-order-requires : tie.Need-command-order-requires
+command-order-requires c κs = tt
 
 returns-2 : tie.Need-returns-2
 returns-2 c =
-    let f = now (c .before .before .before .before .before .before .before .before .before .before .before .before .args .frame) in
-    let e : c .before .before .before .before .before .before .frame-order .result ≡ frameOrder (wrongSize f) (wrongClass f) (wrongParameters f) (wrongFrame f) = order-of f (c .before .before .before .before .before .before .frame-order .ensures) (c .before .before .before .before .before .before .before .before .before .before .wrong-size .ensures) (c .before .before .before .before .before .before .before .before .before .wrong-class .ensures) (c .before .before .before .before .before .before .before .before .wrong-parameters .ensures) (c .before .before .before .before .before .before .before .wrong-frame .ensures) in
-    frame-passes _ f (sym e ∙ c .before .before .before .before .before .if1 .left) (c .before .before .byte-at .ensures) (c .before .before .before .before .data-start .ensures) (c .before .before .before .data-end .ensures) (c .command-status .ensures)
+    let f = now (c .before .before .before .before .before .before .before .before .before .before .before .before .before .args .frame) in
+    let e : c .before .before .before .before .before .before .before .frame-order .result ≡ frameOrder (wrongSize f) (wrongClass f) (wrongParameters f) (wrongFrame f) = order-of f (c .before .before .before .before .before .before .before .frame-order .ensures) (c .before .before .before .before .before .before .before .before .before .before .before .wrong-size .ensures) (c .before .before .before .before .before .before .before .before .before .before .wrong-class .ensures) (c .before .before .before .before .before .before .before .before .before .wrong-parameters .ensures) (c .before .before .before .before .before .before .before .before .wrong-frame .ensures) in
+    frame-passes _ f (sym e ∙ c .before .before .before .before .before .before .if1 .left) (c .before .before .before .byte-at .ensures) (c .before .before .before .before .before .data-start .ensures) (c .before .before .before .before .data-end .ensures) (c .before .asked .ensures) (c .command-order .ensures)
 
 pub status-spec : {M : Type 1} → statement M
 status-spec =
@@ -72,8 +72,9 @@ status-spec =
     data-start-requires
     data-end-requires
     byte-at-requires
-    sub-command-status
-    part-command-status-start
-    part-command-status-end
-    command-status-requires
+    sub-asked
+    part-asked-start
+    part-asked-end
+    asked-requires
+    command-order-requires
     returns-2)
