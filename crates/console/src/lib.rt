@@ -1,7 +1,7 @@
 // A desk on standard input and output: input is read in blocks, and all whole lines of a block are answered before the next read.
+use desk::Desk;
 use libc::STDIN_FILENO;
 use libc::STDOUT_FILENO;
-use script::Desk;
 ghost use Prim.Native.Nat.{_+_, _≤_};
 ghost use lib.ListN.{length};
 
@@ -26,7 +26,7 @@ fn answer_some(desk: Desk, text: &[u8]) -> Answered
     ensures { λ r. ⌜ r .read ≤ length (now (text .entry)) ⌝ }
 {
     let mut out = io::large_buffer();
-    let went = desk.run(text, &mut out);
+    let went = script::run(desk, text, &mut out);
     let n = went.written;
     if n <= out.len() {
         io::write_all(STDOUT_FILENO, &out[0..n]);

@@ -1,11 +1,11 @@
 // The bench for programs in other languages: one function over lent slices.
-use script::Desk;
+use desk::Desk;
 ghost use mathlib.Core.Path.{_≡_};
 ghost use mathlib.Core.Bool.{true};
 ghost use mathlib.Core.List.{[]};
 ghost use lib.ListN.{length};
 ghost use Rattle.wire.specs.Bytes.{Shows};
-ghost use Rattle.script.specs.Lines.{programDesk};
+ghost use Rattle.desk.specs.Program.{programDesk};
 ghost use Rattle.script.specs.Run.{linesAfter, went};
 
 // Plays the whole lines of a script on a new bench and lays the answers over the front of out. It answers how many characters
@@ -17,7 +17,7 @@ pub extern "C" fn amberdrone_bench(script: &[u8], out: &mut [u8], read: &mut usi
     ensures { λ r. ⌜ now (read .exit) ≡ went (programDesk true) (linesAfter [] (now (script .entry))) (length (now (out .entry))) .read ⌝ }
 {
     let desk = Desk::bench();
-    let went = desk.run(script, out);
+    let went = script::run(desk, script, out);
     *read = went.read;
     went.written
 }

@@ -1,6 +1,7 @@
 pub mod Lines
-pub mod AddsLaws
 pub mod Run
 pub mod Laws
 pub mod RunLaws
 pub mod Sofar
+pub mod Commands
+pub mod Played

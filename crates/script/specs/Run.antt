@@ -6,7 +6,7 @@ use lib.Dec.{eqb, ltb}
 use lib.ListN.{length}
 use Rattle.tables.specs.Choice.{pick}
 use Rattle.wire.specs.Bytes.{laid}
-use Rattle.script.specs.declared.Desk.{Desk}
+use Rattle.desk.specs.declared.Desk.{Desk}
 use Rattle.script.specs.declared.Went.{Went}
 use Rattle.script.specs.Lines.{lineSaid}
 

@@ -1,26 +1,32 @@
 -- Laws of lines in a text, and of a run line by line.
 use Prim.Native.Nat.{ℕ, suc, _+_, _-_, _≤_, _<_}
 use mathlib.Core.Bool.{Bool, true, false, true≢false}
-use mathlib.Core.List.{List, [], _∷_, _++_, append-assoc, append-nil}
+use mathlib.Core.List.{List, [], _∷_, _++_}
 use mathlib.Core.Path.{_≡_, refl, sym, ap, _∙_}
 use borrow.Author.Tests.{eq-eqb, ne-eqb, le-leb, lt-leb}
-use lib.Dec.{eqb, leb, ltb}
-use lib.ListN.{length, take, drop, getD, length-append, length-drop, drop-of-length-le}
+use lib.Dec.{leb, ltb}
+use lib.ListN.{length, drop, getD, length-drop, drop-of-length-le}
 use lib.Seq.{take-suc, drop-cons, getD-drop}
 use native.Mathlib.Numerals.{add-one}
 use native.Mathlib.Omega.{arith}
 use Rattle.tables.specs.Choice.{pick, picked, passed}
 use Rattle.wire.specs.Bytes.{part, laid, laidIn}
 use Rattle.wire.specs.Laws.{length-laid}
-use Rattle.script.specs.declared.Desk.{Desk}
+use Rattle.desk.specs.declared.Desk.{Desk}
 use Rattle.script.specs.declared.Step.{Step}
-use Rattle.script.specs.Lines.{Said, Adds}
-use Rattle.script.specs.AddsLaws.{adds-then, adds-room}
+use Rattle.text.specs.Hex.{isHex}
+use Rattle.text.specs.Shown.{Adds}
+use Rattle.text.specs.Adds.{adds-then, adds-room}
+use Rattle.script.specs.Lines.{Said}
 use Rattle.script.specs.Run.{linesAfter}
 
 -- the lines of a text from place at on: none where no LF follows, else the one up to place e, and those behind it
 abbrev pub Lines : List ℕ → ℕ → ℕ → Type 0
 Lines t at e = linesAfter [] (drop at t) ≡ pick (ltb e (length t)) (part t at e ∷ linesAfter [] (drop (e + 1) t)) []
+
+-- a line is no command: it is empty, too long, or no digits
+abbrev pub NoCommand : List ℕ → Type 0
+NoCommand line = 0 < length line → length line ≤ 1024 → isHex line ≡ false
 
 part-none : (t : List ℕ) (at : ℕ) → part t at at ≡ []
 part-none t at = let e : at - at ≡ 0 = omega arith in rw e

@@ -8,12 +8,11 @@ use lib.Dec.{leb}
 use lib.ListN.{length, drop, length-append}
 use native.Mathlib.Nat.{add-zero, zero-add, sub-zero}
 use native.Mathlib.Omega.{arith}
-use Rattle.tables.specs.Choice.{pick, picked, passed}
+use Rattle.tables.specs.Choice.{picked, passed}
 use Rattle.wire.specs.Bytes.{part, laid}
 use Rattle.wire.specs.Laws.{laid-none, laid-behind, length-part, length-laid}
-use Rattle.script.specs.declared.Desk.{Desk}
-use Rattle.script.specs.declared.Went.{Went}
-use Rattle.script.specs.Lines.{Said, lineSaid}
+use Rattle.desk.specs.declared.Desk.{Desk}
+use Rattle.script.specs.Lines.{lineSaid}
 use Rattle.script.specs.Run.{linesAfter, Gone, stopped, ahead, went, wentOf, Goes}
 use Rattle.script.specs.RunLaws.{Lines, lines-none}
 

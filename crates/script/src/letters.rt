@@ -1,175 +1,131 @@
 // The lines that begin with a letter, on the bench alone.
-use super::Desk;
-use super::answers;
-use super::answers::Told;
-use super::books;
+use super::MOST_ROOM;
+use super::Told;
 use access::Session;
 use card::Card;
-use purse::Limits;
-use settings::Settings;
-ghost use mathlib.Core.Path.{_≡_};
+use desk::Desk;
 ghost use Prim.Native.Nat.{_+_, _*_, _≤_};
 ghost use lib.ListN.{length, getD};
 ghost use Rattle.card.specs.Events.{personalised, sessionChanged};
-ghost use Rattle.script.specs.Lines.{Tells, le2, signed, limitsIn, settingsIn, valueIn, unread, counted, lent, bookKept, letteredBy, lettered};
+ghost use Rattle.orders.specs.Order.{settingsIn, valueIn};
+ghost use Rattle.script.specs.Lines.{Tells, unread, counted, lent, bookKept, letteredBy, lettered};
 
-// Two bytes from at on, least significant first.
-fn le2_at(b: &[u8], at: u8) -> u16
-    ensures { λ r. ⌜ r ≡ le2 (now (b .entry)) at ⌝ }
+pub(crate) fn say_unread(desk: Desk, answer: &mut [u8]) -> Told
+    requires { ⌜ 1040 ≤ length (now answer) ⌝ }
+    ensures { λ r. ⌜ Tells (unread desk) (now (answer .entry)) (now (answer .exit)) r ⌝ }
 {
-    let i = at as usize;
-    let low = wire::byte_at(b, i);
-    let high = wire::byte_at(b, i + 1);
-    low as u16 + 256 * (high as u16)
+    let one = [0x3F];
+    wire::lay(answer, 0, &one);
+    Told { desk, len: 1 }
 }
 
-// Four bytes from at on, least significant first, as a signed number.
-fn signed_at(b: &[u8], at: u8) -> i32
-    ensures { λ r. ⌜ r ≡ signed (now (b .entry)) at ⌝ }
+// P: personalise.
+fn say_personalise(mut desk: Desk, b: &[u8], answer: &mut [u8]) -> Told
+    requires { ⌜ 1040 ≤ length (now answer) ⌝ }
+    ensures { λ r. ⌜ Tells (counted desk (personalised (settingsIn (now (b .entry))) (valueIn (now (b .entry))))) (now (answer .entry)) (now (answer .exit)) r ⌝ }
 {
-    whole::number(wire::le4_at(b, at))
+    let settings = orders::settings_in(b);
+    let value = orders::value_in(b);
+    let made = Card::personalise(settings, value);
+    let len = answers::put_number(made.refusal, answer);
+    let next = made.card;
+    desk.card = next;
+    Told { desk, len }
 }
 
-fn limits_in(b: &[u8]) -> Limits
-    ensures { λ r. ⌜ r ≡ limitsIn (now (b .entry)) ⌝ }
+// S: a session change.
+fn say_session(mut desk: Desk, session: Session, answer: &mut [u8]) -> Told
+    requires { ⌜ 1040 ≤ length (now answer) ⌝ }
+    ensures { λ r. ⌜ Tells (counted desk (sessionChanged (desk .card) session)) (now (answer .entry)) (now (answer .exit)) r ⌝ }
 {
-    let lower = signed_at(b, 10);
-    let upper = signed_at(b, 14);
-    Limits { lower, upper }
+    let card = desk.card;
+    let changed = card.change_session(session);
+    let len = answers::put_number(changed.refusal, answer);
+    let next = changed.card;
+    desk.card = next;
+    Told { desk, len }
 }
 
-fn settings_in(b: &[u8]) -> Settings
-    ensures { λ r. ⌜ r ≡ settingsIn (now (b .entry)) ⌝ }
+// R: the length of the reply buffer.
+fn say_room(mut desk: Desk, n: usize, answer: &mut [u8]) -> Told
+    requires { ⌜ 1040 ≤ length (now answer) ⌝ }
+    ensures { λ r. ⌜ Tells (lent desk n) (now (answer .entry)) (now (answer .exit)) r ⌝ }
 {
-    let switches = wire::byte_at(b, 22);
-    Settings {
-        r00: le2_at(b, 0),
-        r04: le2_at(b, 2),
-        r1f: le2_at(b, 4),
-        r03: le2_at(b, 6),
-        r01: le2_at(b, 8),
-        limits: limits_in(b),
-        limited: switches % 2 == 1,
-        free: switches / 2 % 2 == 1,
+    if MOST_ROOM < n {
+        return say_unread(desk, answer);
     }
+    let len = answers::put_number(0, answer);
+    desk.room = n;
+    Told { desk, len }
 }
 
-impl Desk {
-    pub(crate) fn say_unread(self, answer: &mut [u8]) -> Told
-        requires { ⌜ 1040 ≤ length (now answer) ⌝ }
-        ensures { λ r. ⌜ Tells (unread self) (now (answer .entry)) (now (answer .exit)) r ⌝ }
-    {
-        let len = answers::put_unread(answer);
-        Told { desk: self, len }
-    }
+// B: the books.
+fn say_books(desk: Desk, answer: &mut [u8]) -> Told
+    requires { ⌜ 1040 ≤ length (now answer) ⌝ }
+    ensures { λ r. ⌜ Tells (bookKept desk) (now (answer .entry)) (now (answer .exit)) r ⌝ }
+{
+    let card = desk.card;
+    let purse = card.purse;
+    let log = card.log;
+    let session = card.session;
+    let len = books::put_books(purse, log, session, answer);
+    Told { desk, len }
+}
 
-    // P: personalise.
-    fn say_personalise(mut self, b: &[u8], answer: &mut [u8]) -> Told
-        requires { ⌜ 1040 ≤ length (now answer) ⌝ }
-        ensures { λ r. ⌜ Tells (counted self (personalised (settingsIn (now (b .entry))) (valueIn (now (b .entry))))) (now (answer .entry)) (now (answer .exit)) r ⌝ }
-    {
-        let settings = settings_in(b);
-        let value = signed_at(b, 18);
-        let made = Card::personalise(settings, value);
-        let len = answers::put_number(made.refusal, answer);
-        let next = made.card;
-        self.card = next;
-        Told { desk: self, len }
+// A letter with n characters behind it, and the bytes b that they spell.
+fn say_spelt(desk: Desk, letter: u8, n: usize, digits: bool, b: &[u8], answer: &mut [u8]) -> Told
+    requires { ⌜ 1040 ≤ length (now answer) ⌝ }
+    ensures { λ r. ⌜ Tells (letteredBy desk letter n digits (now (b .entry))) (now (answer .entry)) (now (answer .exit)) r ⌝ }
+{
+    if (letter == b'P') & (n == 46) & digits {
+        return say_personalise(desk, b, answer);
     }
+    if (letter == b'S') & (n == 0) {
+        return say_session(desk, Session::Nobody, answer);
+    }
+    if (letter == b'S') & (n == 2) & digits {
+        return say_key(desk, b, answer);
+    }
+    if (letter == b'R') & (n == 4) & digits {
+        return say_length(desk, b, answer);
+    }
+    if (letter == b'B') & (n == 0) {
+        return say_books(desk, answer);
+    }
+    say_unread(desk, answer)
+}
 
-    // S: a session change.
-    fn say_session(mut self, session: Session, answer: &mut [u8]) -> Told
-        requires { ⌜ 1040 ≤ length (now answer) ⌝ }
-        ensures { λ r. ⌜ Tells (counted self (sessionChanged (self .card) session)) (now (answer .entry)) (now (answer .exit)) r ⌝ }
-    {
-        let card = self.card;
-        let changed = card.change_session(session);
-        let len = answers::put_number(changed.refusal, answer);
-        let next = changed.card;
-        self.card = next;
-        Told { desk: self, len }
-    }
+// S with a key's number.
+fn say_key(desk: Desk, b: &[u8], answer: &mut [u8]) -> Told
+    requires { ⌜ 1040 ≤ length (now answer) ⌝ }
+    ensures { λ r. ⌜ Tells (counted desk (sessionChanged (desk .card) (Session.Key (getD (now (b .entry)) 0 0)))) (now (answer .entry)) (now (answer .exit)) r ⌝ }
+{
+    let k = wire::byte_at(b, 0);
+    say_session(desk, Session::Key(k), answer)
+}
 
-    // R: the length of the reply buffer.
-    fn say_room(mut self, n: usize, answer: &mut [u8]) -> Told
-        requires { ⌜ 1040 ≤ length (now answer) ⌝ }
-        ensures { λ r. ⌜ Tells (lent self n) (now (answer .entry)) (now (answer .exit)) r ⌝ }
-    {
-        if Desk::MOST_ROOM < n {
-            return self.say_unread(answer);
-        }
-        let len = answers::put_number(0, answer);
-        self.room = n;
-        Told { desk: self, len }
-    }
+// R with a length, most significant byte first.
+fn say_length(desk: Desk, b: &[u8], answer: &mut [u8]) -> Told
+    requires { ⌜ 1040 ≤ length (now answer) ⌝ }
+    ensures { λ r. ⌜ Tells (lent desk (256 * getD (now (b .entry)) 0 0 + getD (now (b .entry)) 1 0)) (now (answer .entry)) (now (answer .exit)) r ⌝ }
+{
+    let high = wire::byte_at(b, 0);
+    let low = wire::byte_at(b, 1);
+    say_room(desk, 256 * (high as usize) + low as usize, answer)
+}
 
-    // B: the books.
-    fn say_books(self, answer: &mut [u8]) -> Told
-        requires { ⌜ 1040 ≤ length (now answer) ⌝ }
-        ensures { λ r. ⌜ Tells (bookKept self) (now (answer .entry)) (now (answer .exit)) r ⌝ }
-    {
-        let card = self.card;
-        let purse = card.purse;
-        let log = card.log;
-        let session = card.session;
-        let len = books::put_books(purse, log, session, answer);
-        Told { desk: self, len }
-    }
-    // A letter with n characters behind it, and the bytes b that they spell.
-    fn say_spelt(self, letter: u8, n: usize, digits: bool, b: &[u8], answer: &mut [u8]) -> Told
-        requires { ⌜ 1040 ≤ length (now answer) ⌝ }
-        ensures { λ r. ⌜ Tells (letteredBy self letter n digits (now (b .entry))) (now (answer .entry)) (now (answer .exit)) r ⌝ }
-    {
-        if (letter == b'P') & (n == 46) & digits {
-            return self.say_personalise(b, answer);
-        }
-        if (letter == b'S') & (n == 0) {
-            return self.say_session(Session::Nobody, answer);
-        }
-        if (letter == b'S') & (n == 2) & digits {
-            return self.say_key(b, answer);
-        }
-        if (letter == b'R') & (n == 4) & digits {
-            return self.say_length(b, answer);
-        }
-        if (letter == b'B') & (n == 0) {
-            return self.say_books(answer);
-        }
-        self.say_unread(answer)
-    }
-
-    // S with a key's number.
-    fn say_key(self, b: &[u8], answer: &mut [u8]) -> Told
-        requires { ⌜ 1040 ≤ length (now answer) ⌝ }
-        ensures { λ r. ⌜ Tells (counted self (sessionChanged (self .card) (Session.Key (getD (now (b .entry)) 0 0)))) (now (answer .entry)) (now (answer .exit)) r ⌝ }
-    {
-        let k = wire::byte_at(b, 0);
-        self.say_session(Session::Key(k), answer)
-    }
-
-    // R with a length, most significant byte first.
-    fn say_length(self, b: &[u8], answer: &mut [u8]) -> Told
-        requires { ⌜ 1040 ≤ length (now answer) ⌝ }
-        ensures { λ r. ⌜ Tells (lent self (256 * getD (now (b .entry)) 0 0 + getD (now (b .entry)) 1 0)) (now (answer .entry)) (now (answer .exit)) r ⌝ }
-    {
-        let high = wire::byte_at(b, 0);
-        let low = wire::byte_at(b, 1);
-        self.say_room(256 * (high as usize) + low as usize, answer)
-    }
-
-    // A letter and the characters behind it.
-    pub(crate) fn say_lettered(
-        self,
-        letter: u8,
-        rest: &[u8],
-        bytes: &mut [u8],
-        answer: &mut [u8],
-    ) -> Told
-        requires { ⌜ (length (now rest) ≤ 1024) × (512 ≤ length (now bytes)) × (1040 ≤ length (now answer)) ⌝ }
-        ensures { λ r. ⌜ Tells (lettered self letter (now (rest .entry))) (now (answer .entry)) (now (answer .exit)) r ⌝ }
-    {
-        let digits = text::is_hex(rest);
-        let n = text::spell(rest, bytes);
-        self.say_spelt(letter, rest.len(), digits, &bytes[0..n], answer)
-    }
+// A letter and the characters behind it.
+pub(crate) fn say_lettered(
+    desk: Desk,
+    letter: u8,
+    rest: &[u8],
+    bytes: &mut [u8],
+    answer: &mut [u8],
+) -> Told
+    requires { ⌜ (length (now rest) ≤ 1024) × (512 ≤ length (now bytes)) × (1040 ≤ length (now answer)) ⌝ }
+    ensures { λ r. ⌜ Tells (lettered desk letter (now (rest .entry))) (now (answer .entry)) (now (answer .exit)) r ⌝ }
+{
+    let n = text::spell(rest, bytes);
+    let digits = 2 * n == rest.len();
+    say_spelt(desk, letter, rest.len(), digits, &bytes[0..n], answer)
 }

@@ -1,137 +1,63 @@
 // Scripts: lines of text that play a card, each answered by a line.
-mod answers;
-mod books;
 mod letters;
 
-use answers::Told;
-use card::Card;
-use card::Reply;
-use purse::Limits;
-use settings::Settings;
+use desk::Desk;
 ghost use mathlib.Core.Path.{_≡_};
-ghost use mathlib.Core.Bool.{true, false};
 ghost use mathlib.Core.List.{[]};
-ghost use Prim.Native.Nat.{_≤_};
-ghost use lib.ListN.{length};
-ghost use Rattle.text.specs.Hex.{isHex, spelt};
-ghost use Rattle.card.specs.Events.{commanded};
+ghost use Prim.Native.Nat.{_≤_, _<_};
+ghost use lib.ListN.{length, getD};
 ghost use Rattle.script.specs.Run.{linesAfter, went, Goes};
-ghost use Rattle.script.specs.RunLaws.{Lines, Stepped};
-ghost use Rattle.script.specs.Lines.{Plays, Tells, programCard, programDesk, lentRoom, powered, replied, lineSaid};
+ghost use Rattle.script.specs.RunLaws.{Lines, Stepped, NoCommand};
+ghost use Rattle.script.specs.Lines.{Tells, lentRoom, powered, lineSaid};
 
-// A card on the desk, the length of the reply buffer lent to its commands, and whether lettered lines are taken.
-pub struct Desk {
-    pub card: Card,
-    pub room: usize,
-    pub bench: bool,
+// A desk after a line, and the number of characters of the answer.
+pub struct Told {
+    pub desk: Desk,
+    pub len: usize,
 }
 
-impl Desk {
-    // The largest reply buffer, and the buffers that one line needs.
-    pub const MOST_ROOM: usize = 0x200;
+// The largest reply buffer, and the buffers that one line needs.
+pub const MOST_ROOM: usize = 0x200;
 
-    // The program's card.
-    fn program_card() -> Card
-        ensures { λ r. ⌜ r ≡ programCard ⌝ }
-    {
-        let settings = Settings {
-            r00: 0xEEEE,
-            r04: 0xEEEE,
-            r1f: 0xEEEE,
-            r03: 0xEEEE,
-            r01: 0xEEEE,
-            limits: Limits {
-                lower: 0,
-                upper: 1000,
-            },
-            limited: true,
-            free: false,
-        };
-        let reply = Card::personalise(settings, 100);
-        reply.card
-    }
-
-    // The room lent to a command, at most MOST_ROOM.
-    fn lent_room(room: usize) -> usize
-        ensures { λ r. ⌜ r ≡ lentRoom room ⌝ }
-    {
-        if Desk::MOST_ROOM < room {
-            return Desk::MOST_ROOM;
-        }
-        room
-    }
-
-    // An empty line: a power-up.
-    fn say_power(mut self, answer: &mut [u8]) -> Told
-        requires { ⌜ 1040 ≤ length (now answer) ⌝ }
-        ensures { λ r. ⌜ Tells (powered self) (now (answer .entry)) (now (answer .exit)) r ⌝ }
-    {
-        let card = self.card;
-        let reply = card.power_up();
-        let len = answers::put_number_but_0(reply.refusal, answer);
-        let next = reply.card;
-        self.card = next;
-        Told { desk: self, len }
-    }
-
-    // A line of digits: a command.
-    fn say_command(
-        mut self,
-        line: &[u8],
-        frame: &mut [u8],
-        reply: &mut [u8],
-        answer: &mut [u8],
-    ) -> Told
-        requires { ⌜ (isHex (now line) ≡ true) × (length (now line) ≤ 1024) × (512 ≤ length (now frame)) × (512 ≤ length (now reply)) × (1040 ≤ length (now answer)) ⌝ }
-        ensures { λ r. ⌜ Tells (replied self (commanded (self .card) (spelt (now (line .entry))) (lentRoom (self .room)))) (now (answer .entry)) (now (answer .exit)) r ⌝ }
-    {
-        let room = Desk::lent_room(self.room);
-        let card = self.card;
-        let played = play_line(card, line, room, frame, reply);
-        let size = played.len;
-        let len = answers::put_reply(played.refusal, &reply[0..size], answer);
-        let next = played.card;
-        self.card = next;
-        Told { desk: self, len }
-    }
-
-    // The answer to a line, without its end.
-    fn say(self, line: &[u8], frame: &mut [u8], reply: &mut [u8], answer: &mut [u8]) -> Told
-        requires { ⌜ (512 ≤ length (now frame)) × (512 ≤ length (now reply)) × (1040 ≤ length (now answer)) ⌝ }
-        ensures { λ r. ⌜ Tells (lineSaid self (now (line .entry))) (now (answer .entry)) (now (answer .exit)) r ⌝ }
-    {
-        let n = line.len();
-        if 1024 < n {
-            return self.say_unread(answer);
-        }
-        if n == 0 {
-            return self.say_power(answer);
-        }
-        if text::is_hex(line) {
-            return self.say_command(line, frame, reply, answer);
-        }
-        if self.bench {
-            return self.say_lettered(wire::byte_at(line, 0), &line[1..], frame, answer);
-        }
-        self.say_unread(answer)
-    }
-}
-
-// Plays a frame with the first room bytes of reply for its reply.
-fn play(card: Card, frame: &[u8], room: usize, reply: &mut [u8]) -> Reply
-    requires { ⌜ (room ≤ 512) × (512 ≤ length (now reply)) ⌝ }
-    ensures { λ r. ⌜ Plays (commanded card (now (frame .entry)) room) (now (reply .exit)) r ⌝ }
+// The room lent to a command, at most MOST_ROOM.
+fn lent_room(room: usize) -> usize
+    ensures { λ r. ⌜ r ≡ lentRoom room ⌝ }
 {
-    card.command(frame, &mut reply[0..room])
+    if MOST_ROOM < room {
+        return MOST_ROOM;
+    }
+    room
 }
 
-// Plays the frame that a line of digits spells.
-fn play_line(card: Card, line: &[u8], room: usize, frame: &mut [u8], reply: &mut [u8]) -> Reply
-    requires { ⌜ (isHex (now line) ≡ true) × (length (now line) ≤ 1024) × (512 ≤ length (now frame)) × (room ≤ 512) × (512 ≤ length (now reply)) ⌝ }
-    ensures { λ r. ⌜ Plays (commanded card (spelt (now (line .entry))) room) (now (reply .exit)) r ⌝ }
+// An empty line: a power-up.
+fn say_power(mut desk: Desk, answer: &mut [u8]) -> Told
+    requires { ⌜ 1040 ≤ length (now answer) ⌝ }
+    ensures { λ r. ⌜ Tells (powered desk) (now (answer .entry)) (now (answer .exit)) r ⌝ }
 {
-    let n = text::spell(line, frame);
-    play(card, &frame[0..n], room, reply)
+    let card = desk.card;
+    let reply = card.power_up();
+    let len = answers::put_number_but_0(reply.refusal, answer);
+    let next = reply.card;
+    desk.card = next;
+    Told { desk, len }
+}
+
+// The answer to a line that is no command, without its end.
+fn say(desk: Desk, line: &[u8], frame: &mut [u8], answer: &mut [u8]) -> Told
+    requires { ⌜ NoCommand (now line) × (512 ≤ length (now frame)) × (1040 ≤ length (now answer)) ⌝ }
+    ensures { λ r. ⌜ Tells (lineSaid desk (now (line .entry))) (now (answer .entry)) (now (answer .exit)) r ⌝ }
+{
+    let n = line.len();
+    if 1024 < n {
+        return letters::say_unread(desk, answer);
+    }
+    if n == 0 {
+        return say_power(desk, answer);
+    }
+    if desk.bench {
+        return letters::say_lettered(desk, wire::byte_at(line, 0), &line[1..], frame, answer);
+    }
+    letters::say_unread(desk, answer)
 }
 
 // How far a script was played: the desk, the characters read, and the characters written.
@@ -144,7 +70,7 @@ pub struct Went {
 // The place of the first LF from at on, or the length.
 fn line_end(text: &[u8], at: usize) -> usize
     requires { ⌜ at ≤ length (now text) ⌝ }
-    ensures { λ r. ⌜ (at ≤ r) × (r ≤ length (now (text .entry))) × Lines (now (text .entry)) at r ⌝ }
+    ensures { λ r. ⌜ (at ≤ r) × (r ≤ length (now (text .entry))) × Lines (now (text .entry)) at r × (r < length (now (text .entry)) → getD (now (text .entry)) r 0 ≡ 0x0A) ⌝ }
 {
     let mut i = at;
     while i < text.len() {
@@ -163,97 +89,97 @@ pub struct Step {
     pub fits: bool,
 }
 
-impl Desk {
-    // Answers a line from place at of out on, where the answer and its LF fit.
-    fn answer_line(
-        self,
-        line: &[u8],
-        frame: &mut [u8],
-        reply: &mut [u8],
-        answer: &mut [u8],
-        at: usize,
-        out: &mut [u8],
-    ) -> Step
-        requires { ⌜ (512 ≤ length (now frame)) × (512 ≤ length (now reply)) × (1040 ≤ length (now answer)) × (at ≤ length (now out)) ⌝ }
-        ensures { λ r. ⌜ Stepped (lineSaid self (now (line .entry))) self at (now (out .entry)) (now (out .exit)) r ⌝ }
-    {
-        let told = self.say(line, frame, reply, answer);
-        let len = told.len;
-        if out.len() - at <= len {
-            return Step {
-                desk: self,
-                at,
-                fits: false,
+// Answers a line that is no command from place at of out on, where the answer and its LF fit.
+fn answer_line(
+    desk: Desk,
+    line: &[u8],
+    frame: &mut [u8],
+    answer: &mut [u8],
+    at: usize,
+    out: &mut [u8],
+) -> Step
+    requires { ⌜ NoCommand (now line) × (512 ≤ length (now frame)) × (1040 ≤ length (now answer)) × (at ≤ length (now out)) ⌝ }
+    ensures { λ r. ⌜ Stepped (lineSaid desk (now (line .entry))) desk at (now (out .entry)) (now (out .exit)) r ⌝ }
+{
+    let told = say(desk, line, frame, answer);
+    let len = told.len;
+    if out.len() - at <= len {
+        return Step {
+            desk,
+            at,
+            fits: false,
+        };
+    }
+    wire::lay(out, at, &answer[0..len]);
+    let end = [0x0A];
+    wire::lay(out, at + len, &end);
+    let next = told.desk;
+    Step {
+        desk: next,
+        at: at + len + 1,
+        fits: true,
+    }
+}
+
+// Plays the whole lines of a text, as far as their answers fit out.
+pub fn run(desk: Desk, text: &[u8], out: &mut [u8]) -> Went
+    ensures { λ r. ⌜ Goes (went desk (linesAfter [] (now (text .entry))) (length (now (out .entry)))) (now (out .entry)) (now (out .exit)) r ⌝ }
+{
+    let mut frame = [0u8; 512];
+    let mut reply = [0u8; 512];
+    let mut answer = [0u8; 1040];
+    let mut card = desk.card;
+    let mut room = desk.room;
+    let bench = desk.bench;
+    let mut at = 0;
+    let mut n = 0;
+    while at < text.len() {
+        let size = text::spell(&text[at..], &mut frame);
+        let behind = at + 2 * size;
+        if (0 < size) & (wire::byte_at(text, behind) == b'\n') {
+            let lent = lent_room(room);
+            let played = card.command(&frame[0..size], &mut reply[0..lent]);
+            let len = played.len;
+            if !answers::fits(played.refusal, len, out.len() - n) {
+                return Went {
+                    desk: Desk { card, room, bench },
+                    read: at,
+                    written: n,
+                };
+            }
+            let next = played.card;
+            card = next;
+            n = answers::put_line(played.refusal, &reply[0..len], n, out);
+            at = behind + 1;
+            continue;
+        }
+        let e = line_end(text, at);
+        if e == text.len() {
+            return Went {
+                desk: Desk { card, room, bench },
+                read: at,
+                written: n,
             };
         }
-        wire::lay(out, at, &answer[0..len]);
-        let end = [0x0A];
-        wire::lay(out, at + len, &end);
-        let next = told.desk;
-        Step {
-            desk: next,
-            at: at + len + 1,
-            fits: true,
+        let current = Desk { card, room, bench };
+        let step = answer_line(current, &text[at..e], &mut frame, &mut answer, n, out);
+        if !step.fits {
+            return Went {
+                desk: Desk { card, room, bench },
+                read: at,
+                written: n,
+            };
         }
+        let after = step.desk;
+        let next = after.card;
+        card = next;
+        room = after.room;
+        n = step.at;
+        at = e + 1;
     }
-    // Plays the whole lines of a text, as far as their answers fit out.
-    pub fn run(self, text: &[u8], out: &mut [u8]) -> Went
-        ensures { λ r. ⌜ Goes (went self (linesAfter [] (now (text .entry))) (length (now (out .entry)))) (now (out .entry)) (now (out .exit)) r ⌝ }
-    {
-        let mut frame = [0u8; 512];
-        let mut reply = [0u8; 512];
-        let mut answer = [0u8; 1040];
-        let mut desk = self;
-        let mut at = 0;
-        let mut n = 0;
-        while at < text.len() {
-            let e = line_end(text, at);
-            if e == text.len() {
-                return Went {
-                    desk,
-                    read: at,
-                    written: n,
-                };
-            }
-            let step = desk.answer_line(&text[at..e], &mut frame, &mut reply, &mut answer, n, out);
-            if !step.fits {
-                return Went {
-                    desk,
-                    read: at,
-                    written: n,
-                };
-            }
-            let next = step.desk;
-            desk = next;
-            n = step.at;
-            at = e + 1;
-        }
-        Went {
-            desk,
-            read: at,
-            written: n,
-        }
-    }
-
-    // The program's card, and lines of digits alone.
-    pub fn transcript() -> Desk
-        ensures { λ r. ⌜ r ≡ programDesk false ⌝ }
-    {
-        Desk {
-            card: Desk::program_card(),
-            room: Card::REPLY_ROOM,
-            bench: false,
-        }
-    }
-
-    // The program's card, and lettered lines too.
-    pub fn bench() -> Desk
-        ensures { λ r. ⌜ r ≡ programDesk true ⌝ }
-    {
-        Desk {
-            card: Desk::program_card(),
-            room: Card::REPLY_ROOM,
-            bench: true,
-        }
+    Went {
+        desk: Desk { card, room, bench },
+        read: at,
+        written: n,
     }
 }

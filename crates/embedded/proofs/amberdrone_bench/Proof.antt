@@ -1,5 +1,5 @@
 use Rattle.script.specs.Run.{linesAfter, went, wentOf, Goes}
-use Rattle.script.specs.Lines.{programDesk}
+use Rattle.desk.specs.Program.{programDesk}
 use Rattle.script.specs.declared.Went.{Went}
 use lib.ListN.{length}
 use denote.Ref.{now}

@@ -29,7 +29,7 @@ returns c =
     let a = c .before .before .before .before .args in
     let v = c .before .before .before .loop .inv in
     let i = c .before .before .before .loop .i in
-    (v .0, v .1, v .2 ∙ lines-end (now (a .text)) (a .at) i (v .0) (omega arith) (c .if1 .taken) ∙ sym (picked _ _ (lt-ltb _ _ (c .before .before .loop-test .taken))))
+    (v .0, v .1, v .2 ∙ lines-end (now (a .text)) (a .at) i (v .0) (omega arith) (c .if1 .taken) ∙ sym (picked _ _ (lt-ltb _ _ (c .before .before .loop-test .taken))), λ h. c .if1 .taken)
 
 add-i : tie.Need-add-i Inv-loop μ-loop
 add-i c = omega arith
@@ -49,7 +49,7 @@ returns-2 c =
     let a = c .before .before .args in
     let v = c .before .loop .inv in
     let i = c .before .loop .i in
-    (v .0, v .1, v .2 ∙ lines-none _ (now (a .text)) i (c .loop-test .left) ∙ sym (passed _ _ (le-ltb _ _ (c .loop-test .left))))
+    (v .0, v .1, v .2 ∙ lines-none _ (now (a .text)) i (c .loop-test .left) ∙ sym (passed _ _ (le-ltb _ _ (c .loop-test .left))), λ h. absurd (omega arith))
 
 pub line-end-spec : {M : Type 1} → statement M
 line-end-spec =

@@ -1,0 +1,126 @@
+// The books of a card in characters, in lent slices: eight fields with single spaces.
+use access::Session;
+use logbook::Log;
+use purse::Purse;
+ghost use mathlib.Core.List.{[], _∷_};
+ghost use Prim.Native.Nat.{_+_, _≤_};
+ghost use lib.ListN.{length};
+ghost use Rattle.text.specs.Shown.{Adds};
+ghost use Rattle.decimal.specs.Decimal.{decimal, signedDecimal};
+ghost use Rattle.wire.specs.Bytes.{Shows};
+ghost use Rattle.tables.specs.Choice.{pick};
+ghost use Rattle.books.specs.Books.{field, pendingLetters, keyText, figuresText, marksText, booksIn};
+
+// Places enough for any books.
+pub const ROOM: usize = 96;
+
+// Lays a character behind what is there.
+fn add_char(letter: u8, at: usize, answer: &mut [u8]) -> usize
+    requires { ⌜ at + 1 ≤ length (now answer) ⌝ }
+    ensures { λ r. ⌜ Adds (letter ∷ []) (now (answer .entry)) at (now (answer .exit)) r ⌝ }
+{
+    let one = [letter];
+    wire::lay(answer, at, &one);
+    at + 1
+}
+
+fn add_number(n: u32, at: usize, answer: &mut [u8]) -> usize
+    requires { ⌜ at + 10 ≤ length (now answer) ⌝ }
+    ensures { λ r. ⌜ Adds (decimal n) (now (answer .entry)) at (now (answer .exit)) r ⌝ }
+    ensures { λ r. ⌜ r ≤ at + 10 ⌝ }
+{
+    let mut digits = [0u8; 10];
+    let size = decimal::put_decimal(n, &mut digits);
+    wire::lay(answer, at, &digits[0..size]);
+    at + size
+}
+
+fn add_decimal(n: u32, at: usize, answer: &mut [u8]) -> usize
+    requires { ⌜ at + 12 ≤ length (now answer) ⌝ }
+    ensures { λ r. ⌜ Adds (field (decimal n)) (now (answer .entry)) at (now (answer .exit)) r ⌝ }
+    ensures { λ r. ⌜ r ≤ at + 12 ⌝ }
+{
+    let a = add_number(n, at, answer);
+    add_char(b' ', a, answer)
+}
+
+fn add_signed(z: i32, at: usize, answer: &mut [u8]) -> usize
+    requires { ⌜ at + 12 ≤ length (now answer) ⌝ }
+    ensures { λ r. ⌜ Adds (field (signedDecimal z)) (now (answer .entry)) at (now (answer .exit)) r ⌝ }
+    ensures { λ r. ⌜ r ≤ at + 12 ⌝ }
+{
+    let mut digits = [0u8; 11];
+    let size = decimal::put_signed(z, &mut digits);
+    wire::lay(answer, at, &digits[0..size]);
+    add_char(b' ', at + size, answer)
+}
+
+// Lays a letter behind what is there, where the flag says so.
+fn add_letter(flag: bool, letter: u8, at: usize, answer: &mut [u8]) -> usize
+    requires { ⌜ at + 1 ≤ length (now answer) ⌝ }
+    ensures { λ r. ⌜ Adds (pick flag (letter ∷ []) []) (now (answer .entry)) at (now (answer .exit)) r ⌝ }
+    ensures { λ r. ⌜ r ≤ at + 1 ⌝ }
+{
+    if flag {
+        return add_char(letter, at, answer);
+    }
+    at
+}
+
+// What is pending, as letters, or `-`.
+fn add_pending(value: bool, entry: bool, clear: bool, at: usize, answer: &mut [u8]) -> usize
+    requires { ⌜ at + 5 ≤ length (now answer) ⌝ }
+    ensures { λ r. ⌜ Adds (field (pendingLetters value entry clear)) (now (answer .entry)) at (now (answer .exit)) r ⌝ }
+    ensures { λ r. ⌜ r ≤ at + 5 ⌝ }
+{
+    let a = add_letter(value, b'v', at, answer);
+    let b = add_letter(entry, b'n', a, answer);
+    let c = add_letter(clear, b'c', b, answer);
+    let d = add_letter(!(value | entry | clear), b'-', c, answer);
+    add_char(b' ', d, answer)
+}
+
+// The session's key, or `-`.
+fn add_key(session: Session, at: usize, answer: &mut [u8]) -> usize
+    requires { ⌜ at + 10 ≤ length (now answer) ⌝ }
+    ensures { λ r. ⌜ Adds (keyText session) (now (answer .entry)) at (now (answer .exit)) r ⌝ }
+{
+    match session {
+        Session::Nobody => add_char(b'-', at, answer),
+        Session::Key(k) => add_number(k as u32, at, answer),
+    }
+}
+
+// Committed and pending value, committed and pending allowance, the open transaction's Debit sum.
+fn put_figures(purse: Purse, answer: &mut [u8]) -> usize
+    requires { ⌜ 96 ≤ length (now answer) ⌝ }
+    ensures { λ r. ⌜ Adds (figuresText purse) (now (answer .entry)) 0 (now (answer .exit)) r ⌝ }
+    ensures { λ r. ⌜ r ≤ 60 ⌝ }
+{
+    let a = add_signed(purse.value, 0, answer);
+    let b = add_signed(purse.pending, a, answer);
+    let c = add_decimal(purse.allowance, b, answer);
+    let d = add_decimal(purse.left, c, answer);
+    add_decimal(purse.debits, d, answer)
+}
+
+// The number of entries, what is pending, the session.
+fn add_marks(moved: bool, log: Log, session: Session, at: usize, answer: &mut [u8]) -> usize
+    requires { ⌜ (at ≤ 60) × (96 ≤ length (now answer)) ⌝ }
+    ensures { λ r. ⌜ Adds (marksText moved log session) (now (answer .entry)) at (now (answer .exit)) r ⌝ }
+{
+    let a = add_decimal(log.count as u32, at, answer);
+    let b = add_pending(moved, log.adds, log.clears, a, answer);
+    add_key(session, b, answer)
+}
+
+// Lays the books over the front of answer and answers the number of characters; nothing and 0 where answer has fewer than ROOM places.
+pub fn put_books(purse: Purse, log: Log, session: Session, answer: &mut [u8]) -> usize
+    ensures { λ r. ⌜ Shows (booksIn (length (now (answer .entry))) purse log session) (now (answer .entry)) (now (answer .exit)) r ⌝ }
+{
+    if answer.len() < ROOM {
+        return 0;
+    }
+    let a = put_figures(purse, answer);
+    add_marks(purse.moved, log, session, a, answer)
+}

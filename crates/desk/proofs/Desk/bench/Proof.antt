@@ -1,0 +1,14 @@
+use Rattle.desk.specs.Program.{programDesk}
+use borrow.Author.Needs.{needs}
+use Rattle.desk.proofs.Desk.bench.Statement.{statement}
+use Rattle.desk.proofs.Desk.bench.Tie as tie
+
+program-card-requires : tie.Need-program-card-requires
+program-card-requires c κs = search needs
+
+returns : tie.Need-returns
+unfolding programDesk
+returns c = cc
+
+pub bench-spec : {M : Type 1} → statement M
+bench-spec = tie.close (tie.spec program-card-requires returns)

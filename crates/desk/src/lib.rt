@@ -1,0 +1,59 @@
+// A desk: a card, and how lines are played on it.
+use card::Card;
+use purse::Limits;
+use settings::Settings;
+ghost use mathlib.Core.Path.{_≡_};
+ghost use mathlib.Core.Bool.{true, false};
+ghost use Rattle.desk.specs.Program.{programCard, programDesk};
+
+// A card on the desk, the length of the reply buffer lent to its commands, and whether lettered lines are taken.
+pub struct Desk {
+    pub card: Card,
+    pub room: usize,
+    pub bench: bool,
+}
+
+impl Desk {
+    // The program's card.
+    fn program_card() -> Card
+        ensures { λ r. ⌜ r ≡ programCard ⌝ }
+    {
+        let settings = Settings {
+            r00: 0xEEEE,
+            r04: 0xEEEE,
+            r1f: 0xEEEE,
+            r03: 0xEEEE,
+            r01: 0xEEEE,
+            limits: Limits {
+                lower: 0,
+                upper: 1000,
+            },
+            limited: true,
+            free: false,
+        };
+        let reply = Card::personalise(settings, 100);
+        reply.card
+    }
+
+    // The program's card, and lines of digits alone.
+    pub fn transcript() -> Desk
+        ensures { λ r. ⌜ r ≡ programDesk false ⌝ }
+    {
+        Desk {
+            card: Desk::program_card(),
+            room: Card::REPLY_ROOM,
+            bench: false,
+        }
+    }
+
+    // The program's card, and lettered lines too.
+    pub fn bench() -> Desk
+        ensures { λ r. ⌜ r ≡ programDesk true ⌝ }
+    {
+        Desk {
+            card: Desk::program_card(),
+            room: Card::REPLY_ROOM,
+            bench: true,
+        }
+    }
+}

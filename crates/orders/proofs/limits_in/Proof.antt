@@ -1,0 +1,23 @@
+use Rattle.orders.specs.Order.{limitsIn}
+use mir.Facts.{toZ-ofZ}
+use mir.Val.{SFits}
+use mir.Syntax.{w32}
+use borrow.Author.Needs.{needs}
+use Rattle.orders.proofs.limits_in.Statement.{statement}
+use Rattle.orders.proofs.limits_in.Tie as tie
+
+signed-at-requires : tie.Need-signed-at-requires
+signed-at-requires c κs = search needs
+
+signed-at-requires-2 : tie.Need-signed-at-requires-2
+signed-at-requires-2 c κs = search needs
+
+returns : tie.Need-returns
+unfolding limitsIn
+returns c =
+    let f : SFits w32 (c .before .signed-at .result) = search needs in
+    let g : SFits w32 (c .signed-at2 .result) = search needs in
+    cc (toZ-ofZ f, toZ-ofZ g)
+
+pub limits-in-spec : {M : Type 1} → statement M
+limits-in-spec = tie.close (tie.spec signed-at-requires signed-at-requires-2 returns)
