@@ -329,8 +329,14 @@ mod tests {
         // File 03h has the rights word E0F4h: Read free, Write key 0, ReadWrite never.
         let personalise = "PEEEEEEEEEEEEF4E0EEEE00000000E80300006400000001";
         check(
-            &format!("{personalise}\n906C0000010300\n900C000005030100000000\nS00\n901C000005030000000000"),
-            "!0\n640000009100\n919D\n!0\n9100\n",
+            &format!("{personalise}\n906C0000010300\n900C000005030100000000"),
+            "!0\n640000009100\n919D\n",
+        );
+        check(
+            &format!(
+                "{personalise}\n90DC000005030100000000\n90C7000000\nS00\n901C000005030100000000"
+            ),
+            "!0\n9100\n9100\n!0\n9100\n",
         );
     }
 

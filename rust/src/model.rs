@@ -1,4 +1,5 @@
-//! The card, written from the rules paper `01-scope.md` alone.
+//! The card, written from the rules paper `01-scope.md` and the change requests
+//! that have landed, and from nothing else.
 //!
 //! Section names in quotes ("The files", "Events", ...) are those of the
 //! paper. A [`Card`] is changed in place by its three events: a command
@@ -78,7 +79,8 @@ pub enum Refusal {
     NotGranted,
     /// Place 10: LimitedCredit while off; WriteRecord while a clear is pending.
     NotNow,
-    /// Place 11: negative amount; write of length 0; commit option not 00h.
+    /// Place 11: amount of 0 or negative; write of length 0; commit option not
+    /// 00h.
     BadParameter,
     /// Place 12: outside a file, the log, a limit or the allowance.
     Boundary,
@@ -277,7 +279,7 @@ struct ValueWork {
     /// What this transaction's LimitedCredits have taken from the allowance.
     taken: i32,
     /// The sum of this transaction's Debits, held at 2,147,483,647; none if it
-    /// has no Debit (a Debit of zero is one).
+    /// has no Debit.
     debits: Option<i32>,
 }
 
@@ -506,9 +508,9 @@ fn file_and_write(data: &[u8]) -> Result<(u8, usize, &[u8]), Refusal> {
     }
 }
 
-/// Place 11: a negative amount.
+/// Place 11: an amount of 0 or a negative one.
 fn check_amount(amount: i32) -> Result<(), Refusal> {
-    if amount < 0 {
+    if amount <= 0 {
         Err(Refusal::BadParameter)
     } else {
         Ok(())
@@ -1194,11 +1196,32 @@ mod tests {
             assert_eq!(reply(&mut card, &frame), OK);
         }
         assert_eq!(card.books().allowance, i32::MAX);
-        // A Debit of zero is a Debit: the allowance becomes the sum, zero.
-        for frame in [debit(0), commit()] {
+        // The sum alone counts, whatever the allowance was.
+        for frame in [debit(1), commit()] {
             assert_eq!(reply(&mut card, &frame), OK);
         }
-        assert_eq!(card.books().allowance, 0);
+        assert_eq!(card.books().allowance, 1);
+    }
+
+    #[test]
+    fn amounts_of_zero_are_refused() {
+        for zero in [credit(0), debit(0), limited_credit(0)] {
+            let mut card = Card::program_card();
+            card.change_session(Some(3)).unwrap();
+            assert_eq!(reply(&mut card, &debit(1)), OK);
+            assert_eq!(reply(&mut card, &zero), [0x91, 0x9E]);
+            assert_eq!(card, Card::program_card());
+        }
+    }
+
+    #[test]
+    fn the_switch_comes_before_an_amount_of_zero() {
+        let mut card = Card::personalise(&Personalisation {
+            limited_credit: false,
+            ..PROGRAM_CARD
+        })
+        .unwrap();
+        assert_eq!(reply(&mut card, &limited_credit(0)), [0x91, 0x9D]);
     }
 
     #[test]

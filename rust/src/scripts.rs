@@ -84,6 +84,7 @@ pub mod ins {
         COMMIT,
         ABORT,
     ];
+    pub const WITH_AMOUNT: [u8; 3] = [CREDIT, DEBIT, LIMITED_CREDIT];
 }
 
 /// The largest figure of three bytes.
@@ -191,6 +192,8 @@ pub struct Tally {
     pub accepted: [u64; 11],
     /// Refused commands, by the place of the order of checks.
     pub places: [u64; 13],
+    /// Amounts of 0 refused for that, in Credit, Debit and LimitedCredit.
+    pub zero_amounts: [u64; 3],
     /// Commits that pushed an entry out of the log.
     pub pushed_out: u64,
     /// Commits whose Debit sum was held at 2,147,483,647.
@@ -233,8 +236,8 @@ impl std::fmt::Display for Tally {
         }
         write!(
             f,
-            "\nentries pushed out {}, Debit sums held {}, long transactions {}",
-            self.pushed_out, self.held_sums, self.long_transactions
+            "\namounts of 0 {:?}, entries pushed out {}, Debit sums held {}, long transactions {}",
+            self.zero_amounts, self.pushed_out, self.held_sums, self.long_transactions
         )
     }
 }
@@ -435,11 +438,23 @@ impl Writer {
                 Ok(_) => self.count_accepted(frame[1]),
                 Err(refusal) => {
                     self.tally.places[refusal.place() - 1] += 1;
+                    if refusal == Refusal::BadParameter {
+                        self.count_zero_amount(frame);
+                    }
                     self.open = 0;
                 }
             }
         }
         self.digits_line(b"", frame);
+    }
+
+    fn count_zero_amount(&mut self, frame: &[u8]) {
+        let place = ins::WITH_AMOUNT
+            .iter()
+            .position(|&instruction| amount_frame(instruction, 0x03, 0) == frame);
+        if let Some(place) = place {
+            self.tally.zero_amounts[place] += 1;
+        }
     }
 
     fn count_accepted(&mut self, instruction: u8) {
@@ -1028,10 +1043,9 @@ fn speed_read(rng: &mut Rng) -> Vec<u8> {
 fn speed_value(rng: &mut Rng, at: usize) -> Vec<u8> {
     match at % 5 {
         0 => amount_frame(ins::DEBIT, 0x03, 100 + rng.below(100) as u32),
-        1 => amount_frame(ins::CREDIT, 0x03, rng.below(100) as u32),
         // The first transaction finds no allowance.
-        2..=3 if at < 5 => amount_frame(ins::LIMITED_CREDIT, 0x03, 0),
-        2..=3 => amount_frame(ins::LIMITED_CREDIT, 0x03, rng.below(50) as u32),
+        2..=3 if at >= 5 => amount_frame(ins::LIMITED_CREDIT, 0x03, 1 + rng.below(50) as u32),
+        1..=3 => amount_frame(ins::CREDIT, 0x03, 1 + rng.below(100) as u32),
         _ => frame(ins::COMMIT, &[]),
     }
 }
@@ -1108,6 +1122,10 @@ mod tests {
         let tally = &writer.tally;
         println!("{tally}");
         assert!(tally.places.iter().all(|&count| count >= 200), "{tally}");
+        assert!(
+            tally.zero_amounts.iter().all(|&count| count >= 100),
+            "{tally}"
+        );
         assert!(tally.accepted.iter().all(|&count| count >= 500), "{tally}");
         assert!(
             tally.personalisations.iter().all(|&count| count >= 20),

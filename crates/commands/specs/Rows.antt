@@ -61,10 +61,10 @@ notGranted i a = onFile i && isNotGranted a
 unfoldable pub switchedOff : ℕ → Bool → Bool → Bool
 switchedOff i limited clears = (eqb i limitedCredit && not limited) || (eqb i writeRecord && clears)
 
--- negative amount; write of length 0; commit option not 00h
+-- amount of 0 or negative; write of length 0; commit option not 00h
 unfoldable pub parameterCases : ℕ → List ℕ → List Bool
 parameterCases i d =
-    ((eqb i credit || eqb i debit || eqb i limitedCredit) && leb 0x80000000 (amountOf d))
+    ((eqb i credit || eqb i debit || eqb i limitedCredit) && (eqb (amountOf d) 0 || leb 0x80000000 (amountOf d)))
     ∷ ((eqb i writeData || eqb i writeRecord) && eqb (lengthOf d) 0)
     ∷ (eqb i commitTransaction && not (eqb (optionOf d) 0))
     ∷ []

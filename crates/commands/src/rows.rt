@@ -73,7 +73,7 @@ pub fn bad_parameter(ins: u8, d: &[u8]) -> bool
     let len = wire::le3_at(d, 4);
     let option = wire::byte_at(d, 0);
     (((ins == table::CREDIT) | (ins == table::DEBIT) | (ins == table::LIMITED_CREDIT))
-        & (0x80000000 <= amount))
+        & ((amount == 0) | (0x80000000 <= amount)))
         | (((ins == table::WRITE_DATA) | (ins == table::WRITE_RECORD)) & (len == 0))
         | ((ins == table::COMMIT_TRANSACTION) & (option != 0))
 }
