@@ -1,4 +1,4 @@
-//! The card, written from the rules paper `01-scope.md` and the change requests
+//! The card, written from the rules paper and the change requests
 //! that have landed, and from nothing else.
 //!
 //! Section names in quotes ("The files", "Events", ...) are those of the
