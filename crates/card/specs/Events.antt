@@ -7,6 +7,7 @@ use lib.IntN.{ℤ, pos}
 use Rattle.tables.specs.Choice.{pick}
 use Rattle.wire.specs.Bytes.{word}
 use Rattle.datafiles.specs.Files as files
+use Rattle.limits.specs.Limits.{crossed, within}
 use Rattle.purse.specs.Purse as purse
 use Rattle.logbook.specs.Journal as journal
 use Rattle.logbook.specs.View as log
@@ -113,7 +114,7 @@ blank = issued blankSettings (pos 0)
 
 -- a rights nibble is 5 to Dh; lower limit above upper; starting value outside the limits; 0: none of these
 unfoldable pub orderRefusal : Settings → ℤ → ℕ
-orderRefusal s v = pick (rightsBroken s) 1 (pick (purse.crossed (s .limits)) 2 (pick (not (purse.within (s .limits) v)) 3 0))
+orderRefusal s v = pick (rightsBroken s) 1 (pick (crossed (s .limits)) 2 (pick (not (within (s .limits) v)) 3 0))
 
 -- the new card, or the blank one beside the refusal's number
 unfoldable pub personalised : Settings → ℤ → Outcome

@@ -2,8 +2,8 @@
 use mathlib.Core.List.{List, [], _∷_}
 use mathlib.Core.Bool.{Bool, not, _||_}
 use Rattle.tables.specs.Choice.{any}
+use Rattle.limits.specs.Limits.{crossed}
 use Rattle.purse.specs.declared.Purse.{Purse}
-use Rattle.purse.specs.Purse.{crossed}
 use Rattle.purse.specs.Rules as purse
 use Rattle.logbook.specs.declared.Log.{Log}
 use Rattle.logbook.specs.View as log

@@ -10,9 +10,9 @@ use Rattle.tables.specs.Choice.{pick, none, or-no}
 use Rattle.tables.specs.Reasons.{NoReason, no-reason, first-passes}
 use Rattle.wire.specs.Bytes.{outsideOf}
 use Rattle.datafiles.specs.Files.{sizeOf}
-use Rattle.purse.specs.declared.Limits.{Limits}
+use Rattle.limits.specs.declared.Limits.{Limits}
+use Rattle.limits.specs.Limits.{within}
 use Rattle.purse.specs.declared.Purse.{Purse}
-use Rattle.purse.specs.Purse.{within}
 use Rattle.logbook.specs.Journal.{entrySize}
 use Rattle.frames.specs.Frame.{insOf, dataOf, fileOf, offsetOf, lengthOf, amountOf}
 use Rattle.columns.specs.Table.{readData, writeData, credit, debit, limitedCredit, readRecords, writeRecord}

@@ -9,9 +9,9 @@ use Rattle.tables.specs.Choice.{pick, any}
 use Rattle.tables.specs.Reasons.{Reason, _when_, first}
 use Rattle.wire.specs.Bytes.{outsideOf}
 use Rattle.datafiles.specs.Files.{sizeOf}
-use Rattle.purse.specs.declared.Limits.{Limits}
+use Rattle.limits.specs.declared.Limits.{Limits}
+use Rattle.limits.specs.Limits.{within}
 use Rattle.purse.specs.declared.Purse.{Purse}
-use Rattle.purse.specs.Purse.{within}
 use Rattle.logbook.specs.Journal.{entrySize}
 use Rattle.access.specs.declared.Access.{Access}
 use Rattle.access.specs.Rights.{isNever, isNotGranted}

@@ -2,8 +2,8 @@
 use access::Access;
 use columns::table;
 use datafiles::Files;
+use limits::Limits;
 use logbook::Log;
-use purse::Limits;
 use purse::Purse;
 ghost use mathlib.Core.Path.{_≡_};
 ghost use Rattle.commands.specs.Rows.{unknownCommand, wrongLength, unknownFile, otherKindOrNever, notGranted, switchedOff, badParameter, ranged, roomOf, outsideAmount, outside, nothingPending};

@@ -9,7 +9,7 @@ use lib.IntN.{ℤ}
 use lib.ListN.{length}
 use Rattle.tables.specs.Reasons.{Reason, NoReason}
 use Rattle.wire.specs.Bytes.{laid, word}
-use Rattle.purse.specs.Purse.{within}
+use Rattle.limits.specs.Limits.{within}
 use Rattle.access.specs.declared.Session.the-variants.{Nobody}
 use Rattle.frames.specs.Frame.{insOf, dataOf}
 use Rattle.settings.specs.declared.Settings.{Settings}

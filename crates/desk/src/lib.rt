@@ -1,6 +1,6 @@
 // A desk: a card, and how lines are played on it.
 use card::Card;
-use purse::Limits;
+use limits::Limits;
 use settings::Settings;
 ghost use mathlib.Core.Path.{_≡_};
 ghost use mathlib.Core.Bool.{true, false};

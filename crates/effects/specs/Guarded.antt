@@ -9,7 +9,7 @@ use Rattle.tables.specs.Choice.{pick}
 use Rattle.wire.specs.Bytes.{four}
 use Rattle.datafiles.specs.declared.Files.{Files}
 use Rattle.datafiles.specs.Files as files
-use Rattle.purse.specs.declared.Limits.{Limits}
+use Rattle.limits.specs.declared.Limits.{Limits}
 use Rattle.purse.specs.declared.Purse.{Purse}
 use Rattle.purse.specs.Purse as purse
 use Rattle.purse.specs.Guarded.{creditIn, debitIn, rebookIn}

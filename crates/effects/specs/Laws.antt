@@ -15,10 +15,11 @@ use Rattle.wire.specs.Bytes.{four, outsideOf}
 use Rattle.wire.specs.Laws.{length-four}
 use Rattle.datafiles.specs.Files as files
 use Rattle.datafiles.specs.Laws as datafiles
-use Rattle.purse.specs.declared.Limits.{Limits}
+use Rattle.limits.specs.declared.Limits.{Limits}
+use Rattle.limits.specs.Limits.{within}
 use Rattle.purse.specs.declared.Purse.{Purse}
 use Rattle.purse.specs.Guarded.{creditIn, debitIn, rebookIn}
-use Rattle.purse.specs.Purse.{within, credited, debited, rebooked}
+use Rattle.purse.specs.Purse.{credited, debited, rebooked}
 use Rattle.logbook.specs.declared.Log.{Log}
 use Rattle.logbook.specs.Journal as journal
 use Rattle.logbook.specs.View as log

@@ -1,8 +1,8 @@
 // What a command does to each part of a card, and what it shows. Each function answers for every command and data field.
 use columns::table;
 use datafiles::Files;
+use limits::Limits;
 use logbook::Log;
-use purse::Limits;
 use purse::Purse;
 ghost use mathlib.Core.Path.{_≡_};
 ghost use lib.ListN.{length};

@@ -1,5 +1,5 @@
 // A personalisation order in bytes: rights of 00h, 04h, 1Fh, 03h, 01h, lower limit, upper limit, starting value, switches.
-use purse::Limits;
+use limits::Limits;
 use settings::Settings;
 ghost use mathlib.Core.Path.{_≡_};
 ghost use Rattle.orders.specs.Order.{le2, signed, limitsIn, settingsIn, valueIn};

@@ -1,62 +1,18 @@
--- A figure of 32 bits, moved by an amount of 32 bits in a sum of 64 bits: what the machine reads back at each step is the whole number, since it fits.
--- Assumes nothing.
+-- A value moved by an amount: where the limit test passes, the sum of 64 bits fits 32 bits too. Assumes nothing.
 use borrow.Author.Tests.{not-true, not-false}
 use mathlib.Core.Path.{_≡_, _∙_, sym}
 use mathlib.Core.Bool.{Bool, true, false, not}
-use Prim.Native.Nat.{ℕ, _+_, _<_}
-use native.Mathlib.Omega.{arith}
-use lib.IntN.{ℤ, pos, negℤ, _+ℤ_}
-use lib.Signed.{leZ}
+use Prim.Native.Nat.{ℕ}
+use lib.IntN.{ℤ, _+ℤ_}
 use mir.Syntax.{w32, w64}
-use mir.Val.{Fits, SFits, toZ, ofZ}
-use mir.Facts.{toZ-ofZ, toZ-pos, sfits-widen}
-use Rattle.tables.specs.Choice.{and-yes}
-use Rattle.whole.specs.Parts.{above, below, neg-above, neg-below, sum, range32, in32, in64, test-yes}
-use Rattle.purse.specs.declared.Limits.{Limits}
+use mir.Val.{SFits, toZ, ofZ}
+use mir.Facts.{toZ-ofZ}
+use Rattle.whole.specs.Moves.{narrow, wide, Moved}
+use Rattle.limits.specs.declared.Limits.{Limits}
+use Rattle.limits.specs.Limits.{within}
+use Rattle.limits.specs.Laws.{within-fits}
 use Rattle.purse.specs.declared.Purse.{Purse}
-use Rattle.purse.specs.Purse.{within, resting}
-
--- what the machine reads of a figure of 32 bits, at 32 and at 64 bits
-abbrev pub narrow : ℤ → ℤ
-narrow p = toZ w32 (ofZ w32 p)
-
-abbrev pub wide : ℤ → ℤ
-wide p = toZ w64 (ofZ w64 (narrow p))
-
-pub widened : {p : ℤ} → SFits w32 p → SFits w64 (narrow p)
-widened f = rw (toZ-ofZ f) (sfits-widen tt f)
-
-pub read-wide : {p : ℤ} → SFits w32 p → wide p ≡ p
-read-wide f = rw (toZ-ofZ f) (toZ-ofZ (sfits-widen tt f))
-
--- the sum fits 64 bits, and is p moved by z, where the machine reads z as m
-pub record Moved (p z m : ℤ) : Type 0 where
-  pub figure : SFits w32 p
-  pub from : SFits w64 (narrow p)
-  pub fits : SFits w64 (wide p +ℤ m)
-  pub to : toZ w64 (ofZ w64 (wide p +ℤ m)) ≡ p +ℤ z
-
-moved : (p z m : ℤ) → SFits w32 p → above z + below z < 4294967296 → m ≡ z → Moved p z m
-moved p z m f h e =
-    let g : SFits w64 (p +ℤ z) = in64 _ (omega (arith, sum p z, range32 f)) (omega (arith, sum p z, range32 f)) in
-    record { figure = f; from = widened f; fits = rw (read-wide f, e) g; to = rw (read-wide f, e) (toZ-ofZ g) }
-
--- the amount n up, and down
-abbrev pub Rise : (ℤ → ℤ → ℤ → Type 0) → ℤ → ℕ → Type 0
-Rise Kind p n = Kind p (pos n) (toZ w64 n)
-
-abbrev pub Fall : (ℤ → ℤ → ℤ → Type 0) → ℤ → ℕ → Type 0
-Fall Kind p n = Kind p (negℤ (pos n)) (negℤ (toZ w64 n))
-
-module _ {p : ℤ} {n : ℕ} (f : SFits w32 p) (h : Fits w32 n) where
-  read : toZ w64 n ≡ pos n
-  read = toZ-pos w64 (omega arith)
-
-  pub risen : Rise Moved p n
-  risen = moved p (pos n) (toZ w64 n) f (omega arith) read
-
-  pub fallen : Fall Moved p n
-  fallen = moved p (negℤ (pos n)) (negℤ (toZ w64 n)) f (omega (arith, neg-above (pos n), neg-below (pos n))) (rw read)
+use Rattle.purse.specs.Purse.{resting}
 
 -- where the limits hold the sum, it fits 32 bits too
 pub record Landed (l : Limits) (p z m : ℤ) : Type 0 where
@@ -74,13 +30,9 @@ module _ (l : Limits) {p z m : ℤ} {r : Bool} (k : Moved p z m) (e : r ≡ with
   refused t = sym answer ∙ not-true r t
 
   pub landed : SFits w32 (l .lower) → SFits w32 (l .upper) → not r ≡ false → Landed l p z m
-  unfolding within
   landed fl fu t =
       let h : within l (p +ℤ z) ≡ true = sym answer ∙ not-false r t in
-      let b = and-yes (leZ (l .lower) (p +ℤ z)) (leZ (p +ℤ z) (l .upper)) h in
-      let low = test-yes (l .lower) (p +ℤ z) (b .0) in
-      let high = test-yes (p +ℤ z) (l .upper) (b .1) in
-      let g : SFits w32 (p +ℤ z) = in32 _ (omega (arith, high, range32 fu)) (omega (arith, low, range32 fl)) in
+      let g = within-fits l (p +ℤ z) fl fu h in
       record { holds = h; sum = k; fits = rw (k .to) g; to = rw (k .to) (toZ-ofZ g) }
 
 -- ---- at rest

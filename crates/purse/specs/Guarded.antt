@@ -4,9 +4,10 @@ use mathlib.Core.Bool.{_&&_}
 use lib.Dec.{leb}
 use lib.IntN.{pos, _+ℤ_, _-ℤ_}
 use Rattle.tables.specs.Choice.{pick}
-use Rattle.purse.specs.declared.Limits.{Limits}
+use Rattle.limits.specs.declared.Limits.{Limits}
+use Rattle.limits.specs.Limits.{within}
 use Rattle.purse.specs.declared.Purse.{Purse}
-use Rattle.purse.specs.Purse.{within, raised, credited, debited, rebooked}
+use Rattle.purse.specs.Purse.{raised, credited, debited, rebooked}
 
 -- what Credit and LimitedCredit share
 unfoldable pub raiseIn : Limits → Purse → ℕ → ℕ → Purse

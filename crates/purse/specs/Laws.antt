@@ -9,9 +9,10 @@ use lib.IntN.{ℤ, pos, _+ℤ_, _-ℤ_}
 use mir.Syntax.{w32}
 use mir.Val.{ofZ}
 use Rattle.tables.specs.Choice.{none, and-right, pick-both}
-use Rattle.purse.specs.declared.Limits.{Limits}
+use Rattle.limits.specs.declared.Limits.{Limits}
+use Rattle.limits.specs.Limits.{within}
 use Rattle.purse.specs.declared.Purse.{Purse}
-use Rattle.purse.specs.Purse.{largest, within, resting, credited, debited, rebooked, settled, dropped}
+use Rattle.purse.specs.Purse.{largest, resting, credited, debited, rebooked, settled, dropped}
 use Rattle.purse.specs.Rules.{unequal, rules, broken}
 
 -- the rules, one by one

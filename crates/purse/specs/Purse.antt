@@ -1,23 +1,13 @@
 -- The value file: its figures in whole numbers, and what each command does to them.
 use Prim.Native.Nat.{ℕ, _+_, _-_, min}
-use mathlib.Core.Bool.{Bool, true, false, _&&_}
+use mathlib.Core.Bool.{true, false}
 use lib.IntN.{ℤ, pos, _+ℤ_, _-ℤ_}
-use lib.Signed.{leZ, ltZ}
 use Rattle.tables.specs.Choice.{pick}
-use Rattle.purse.specs.declared.Limits.{Limits}
 use Rattle.purse.specs.declared.Purse.{Purse}
 
 -- the largest figure of the allowance and of a sum of Debits
 abbrev pub largest : ℕ
 largest = 2147483647
-
--- the lower limit is above the upper
-unfoldable pub crossed : Limits → Bool
-crossed l = ltZ (l .upper) (l .lower)
-
--- a value lies within the limits
-unfoldable pub within : Limits → ℤ → Bool
-within l v = leZ (l .lower) v && leZ v (l .upper)
 
 -- a purse with nothing pending
 unfoldable pub resting : ℤ → ℕ → Purse

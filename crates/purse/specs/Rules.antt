@@ -6,9 +6,10 @@ use lib.IntN.{ℤ}
 use mir.Syntax.{w32}
 use mir.Val.{ofZ}
 use Rattle.tables.specs.Choice.{any}
-use Rattle.purse.specs.declared.Limits.{Limits}
+use Rattle.limits.specs.declared.Limits.{Limits}
+use Rattle.limits.specs.Limits.{within}
 use Rattle.purse.specs.declared.Purse.{Purse}
-use Rattle.purse.specs.Purse.{largest, within}
+use Rattle.purse.specs.Purse.{largest}
 
 -- two figures of 32 bits are the same where their bits are
 abbrev pub same : ℤ → ℤ → Bool

@@ -3,7 +3,7 @@ use access::Access;
 use access::Session;
 use columns::table;
 use datafiles::Files;
-use purse::Limits;
+use limits::Limits;
 ghost use mathlib.Core.Path.{_≡_};
 ghost use Rattle.settings.specs.Settings.{rightsOf, accessTo, rightsBroken};
 

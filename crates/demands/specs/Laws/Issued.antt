@@ -7,6 +7,7 @@ use borrow.Author.Tests.{not-false}
 use lib.IntN.{ℤ}
 use Rattle.tables.specs.Reasons.{Reason, _when_, no-reason}
 use Rattle.datafiles.specs.Files as files
+use Rattle.limits.specs.Limits.{crossed, within}
 use Rattle.purse.specs.Purse as purse
 use Rattle.purse.specs.Laws as purse-laws
 use Rattle.logbook.specs.View as log
@@ -25,7 +26,7 @@ use Rattle.demands.specs.Laws.Booked.{Open}
 
 module _ (s : Settings) (v : ℤ) (e : Taken s v) where
   reasons : List Reason
-  reasons = (1 when rightsBroken s) ∷ (2 when purse.crossed (s .limits)) ∷ (3 when not (purse.within (s .limits) v)) ∷ []
+  reasons = (1 when rightsBroken s) ∷ (2 when crossed (s .limits)) ∷ (3 when not (within (s .limits) v)) ∷ []
 
   pub issued-kept : Kept (issued s v)
   unfolding issued orderRefusal reasons brokenBy log.broken log.empty files.zeros journal.blank

@@ -11,8 +11,9 @@ use Rattle.wire.specs.Bytes.{laid, laidIn}
 use Rattle.wire.specs.Laws.{length-laid}
 use Rattle.datafiles.specs.declared.Files.{Files}
 use Rattle.datafiles.specs.Files as files
+use Rattle.limits.specs.declared.Limits.{Limits}
+use Rattle.limits.specs.Limits.{crossed}
 use Rattle.purse.specs.declared.Purse.{Purse}
-use Rattle.purse.specs.declared.Limits.{Limits}
 use Rattle.purse.specs.Purse as purse
 use Rattle.purse.specs.Laws as purse-laws
 use Rattle.logbook.specs.Journal.{Journal}
@@ -42,7 +43,7 @@ both j = log.some (j .fresh) && j .clears
 
 pub record Sound (s : State) : Type 0 where
   pub rights : rightsBroken (s .core .settings) ≡ false
-  pub limits : purse.crossed (s .core .settings .limits) ≡ false
+  pub limits : crossed (s .core .settings .limits) ≡ false
   pub session : sessionSound (s .core .session) ≡ true
   pub figures : purse-laws.Sound (s .core .settings .limits) (s .core .purse) (logPending (s .core .journal))
   pub journal : Fit (s .core .journal)

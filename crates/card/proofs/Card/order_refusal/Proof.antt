@@ -1,7 +1,7 @@
 use Rattle.tables.specs.Choice.{hit, skip}
 use mathlib.Core.Path.{refl, sym, ap, _∙_}
 use Rattle.card.specs.Events.{orderRefusal}
-use Rattle.purse.specs.Purse.{within}
+use Rattle.limits.specs.Limits.{within}
 use mir.Facts.{toZ-ofZ}
 use mathlib.Core.Bool.{not}
 use Rattle.card.proofs.Card.order_refusal.Statement.{statement}

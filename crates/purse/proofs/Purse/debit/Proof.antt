@@ -3,9 +3,10 @@ use borrow.Author.Needs.{needs}
 use mir.Syntax.{w32}
 use mir.Val.{SFits}
 use Rattle.tables.specs.Choice.{picked, passed}
+use Rattle.whole.specs.Moves.{Moved, Fall, fallen}
 use Rattle.purse.specs.Purse.{debited}
 use Rattle.purse.specs.Guarded.{debitIn}
-use Rattle.purse.proofs.Moves.{Moved, Fall, fallen, refused, Landed, landed}
+use Rattle.purse.proofs.Moves.{refused, Landed, landed}
 use Rattle.purse.proofs.Purse.debit.Statement.{statement}
 use Rattle.purse.proofs.Purse.debit.Tie as tie
 

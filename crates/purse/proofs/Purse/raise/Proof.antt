@@ -3,8 +3,9 @@ use borrow.Author.Needs.{needs}
 use mir.Syntax.{w32}
 use mir.Val.{SFits}
 use Rattle.tables.specs.Choice.{picked, passed}
+use Rattle.whole.specs.Moves.{Moved, Rise, risen}
 use Rattle.purse.specs.Guarded.{raiseIn}
-use Rattle.purse.proofs.Moves.{Moved, Rise, risen, refused, Landed, landed}
+use Rattle.purse.proofs.Moves.{refused, Landed, landed}
 use Rattle.purse.proofs.Purse.raise.Statement.{statement}
 use Rattle.purse.proofs.Purse.raise.Tie as tie
 

@@ -1,11 +1,11 @@
--- `purse::Limits::hold` meets its contract: the machine's tests are the definition's. Assumes nothing.
+-- `limits::Limits::hold` meets its contract: the machine's tests are the definition's. Assumes nothing.
 use borrow.Author.Needs.{needs}
 use mir.Syntax.{w32}
 use mir.Val.{SFits}
 use mir.Facts.{toZ-ofZ}
-use Rattle.purse.specs.Purse.{within}
-use Rattle.purse.proofs.Limits.hold.Statement.{statement}
-use Rattle.purse.proofs.Limits.hold.Tie as tie
+use Rattle.limits.specs.Limits.{within}
+use Rattle.limits.proofs.Limits.hold.Statement.{statement}
+use Rattle.limits.proofs.Limits.hold.Tie as tie
 
 returns : tie.Need-returns
 unfolding within

@@ -1,11 +1,11 @@
--- `purse::Limits::are_crossed` meets its contract: the machine's test is the definition's. Assumes nothing.
+-- `limits::Limits::are_crossed` meets its contract: the machine's test is the definition's. Assumes nothing.
 use borrow.Author.Needs.{needs}
 use mir.Syntax.{w32}
 use mir.Val.{SFits}
 use mir.Facts.{toZ-ofZ}
-use Rattle.purse.specs.Purse.{crossed}
-use Rattle.purse.proofs.Limits.are_crossed.Statement.{statement}
-use Rattle.purse.proofs.Limits.are_crossed.Tie as tie
+use Rattle.limits.specs.Limits.{crossed}
+use Rattle.limits.proofs.Limits.are_crossed.Statement.{statement}
+use Rattle.limits.proofs.Limits.are_crossed.Tie as tie
 
 returns : tie.Need-returns
 unfolding crossed

@@ -1,12 +1,12 @@
--- `purse::Limits::hold_wide` meets its contract: a limit fits 64 bits. Assumes nothing.
+-- `limits::Limits::hold_wide` meets its contract: a limit fits 64 bits. Assumes nothing.
 use borrow.Author.Needs.{needs}
 use mir.Syntax.{w32}
 use mir.Val.{SFits}
 use mir.Facts.{toZ-ofZ}
-use Rattle.purse.specs.Purse.{within}
-use Rattle.purse.proofs.Moves.{widened, read-wide}
-use Rattle.purse.proofs.Limits.hold_wide.Statement.{statement}
-use Rattle.purse.proofs.Limits.hold_wide.Tie as tie
+use Rattle.limits.specs.Limits.{within}
+use Rattle.whole.specs.Moves.{widened, read-wide}
+use Rattle.limits.proofs.Limits.hold_wide.Statement.{statement}
+use Rattle.limits.proofs.Limits.hold_wide.Tie as tie
 
 cast-result : tie.Need-cast-result
 cast-result c = let f : SFits w32 (c .before .before .args .self .lower) = search needs in widened f

@@ -1,8 +1,8 @@
--- `purse::Limits::hold_rise` meets its contract: the sum fits 64 bits. Assumes nothing.
+-- `limits::Limits::hold_rise` meets its contract: the sum fits 64 bits. Assumes nothing.
 use borrow.Author.Needs.{needs}
-use Rattle.purse.proofs.Moves.{risen}
-use Rattle.purse.proofs.Limits.hold_rise.Statement.{statement}
-use Rattle.purse.proofs.Limits.hold_rise.Tie as tie
+use Rattle.whole.specs.Moves.{risen}
+use Rattle.limits.proofs.Limits.hold_rise.Statement.{statement}
+use Rattle.limits.proofs.Limits.hold_rise.Tie as tie
 
 cast-hold-wide : tie.Need-cast-hold-wide
 cast-hold-wide c = risen (c .fits .from) (c .fits .amount) .from

@@ -1,8 +1,8 @@
--- `purse::Limits::hold_fall` meets its contract: the sum fits 64 bits. Assumes nothing.
+-- `limits::Limits::hold_fall` meets its contract: the sum fits 64 bits. Assumes nothing.
 use borrow.Author.Needs.{needs}
-use Rattle.purse.proofs.Moves.{fallen}
-use Rattle.purse.proofs.Limits.hold_fall.Statement.{statement}
-use Rattle.purse.proofs.Limits.hold_fall.Tie as tie
+use Rattle.whole.specs.Moves.{fallen}
+use Rattle.limits.proofs.Limits.hold_fall.Statement.{statement}
+use Rattle.limits.proofs.Limits.hold_fall.Tie as tie
 
 cast-hold-wide : tie.Need-cast-hold-wide
 cast-hold-wide c = fallen (c .fits .from) (c .fits .amount) .from
