@@ -3,10 +3,11 @@ use Prim.Native.Nat.{ℕ}
 use mathlib.Core.Bool.{Bool}
 use mathlib.Core.List.{List, [], _∷_}
 use mathlib.Core.Path.{_≡_, refl, sym, _∙_}
-use lib.ListN.{length, drop}
+use lib.ListN.{drop}
 use Rattle.tables.specs.Reasons.{Reason, _when_, first, no-reason, first-refuses, first-passes}
-use Rattle.wire.specs.Bytes.{part}
-use Rattle.frames.specs.Frame.{insOf, dataStart, dataEnd, dataOf, wrongSize, wrongClass, wrongParameters, wrongFrame}
+use Rattle.frames.specs.declared.Faults.{Faults}
+use Rattle.frames.specs.Faults.{faultsOf}
+use Rattle.frames.specs.Frame.{insOf, dataOf, wrongSize, wrongClass, wrongParameters, wrongFrame}
 use Rattle.commands.specs.declared.Places.{Places}
 use Rattle.commands.specs.State.{Core}
 use Rattle.commands.specs.Places.{placesOf}
@@ -18,11 +19,6 @@ framePart size class parameters frame = (0x6700 when size) ∷ (0x6E00 when clas
 
 unfoldable pub frameOrder : Bool → Bool → Bool → Bool → ℕ
 frameOrder size class parameters frame = first (framePart size class parameters frame) ok
-
-pub order-of : (f : List ℕ) {r : ℕ} {v1 v2 v3 v4 : Bool} → r ≡ frameOrder v1 v2 v3 v4
-    → v1 ≡ wrongSize f → v2 ≡ wrongClass f → v3 ≡ wrongParameters f → v4 ≡ wrongFrame f
-    → r ≡ frameOrder (wrongSize f) (wrongClass f) (wrongParameters f) (wrongFrame f)
-order-of f e e1 e2 e3 e4 = cc
 
 -- places 5 to 13
 unfoldable pub commandOrder : Bool → Bool → Bool → Bool → Bool → Bool → Bool → Bool → Bool → ℕ
@@ -51,11 +47,16 @@ module _ (c : Core) (f : List ℕ) where
   frames : List Reason
   frames = framePart (wrongSize f) (wrongClass f) (wrongParameters f) (wrongFrame f)
 
-  pub frame-refuses : {s : ℕ} → s ≡ frameOrder (wrongSize f) (wrongClass f) (wrongParameters f) (wrongFrame f) → (s ≡ ok → ⊥) → s ≡ statusOf c f
-  unfolding frameOrder statusOf rowsOf frames
-  frame-refuses e n = e ∙ first-refuses frames (drop 4 (rowsOf c [] (insOf f) (dataOf f))) ok (λ q. n (e ∙ q))
+  -- s is what the order makes of the faults v that were asked
+  module _ {s : ℕ} {v : Faults} (ev : v ≡ faultsOf f) (e : s ≡ frameOrder (v .size) (v .class) (v .parameters) (v .frame)) where
+    by-frame : s ≡ first frames ok
+    unfolding frameOrder faultsOf frames
+    by-frame = rw ev at e
 
-  pub frame-passes : {r i a e : ℕ} {p : Places} → frameOrder (wrongSize f) (wrongClass f) (wrongParameters f) (wrongFrame f) ≡ ok
-      → i ≡ insOf f → a ≡ dataStart (length f) → e ≡ dataEnd (length f) → p ≡ placesOf c i (part f a e) → r ≡ inOrder p → r ≡ statusOf c f
-  unfolding frameOrder statusOf commandStatus rowsOf frames
-  frame-passes e ei ea ee k q = command-by c _ _ k q ∙ rw (ei, ea, ee) (sym (first-passes frames (drop 4 (rowsOf c [] (insOf f) (dataOf f))) ok (no-reason frames ok refl e)))
+    pub frame-refuses : (s ≡ ok → ⊥) → s ≡ statusOf c f
+    unfolding statusOf rowsOf frames
+    frame-refuses n = by-frame ∙ first-refuses frames (drop 4 (rowsOf c [] (insOf f) (dataOf f))) ok (λ q. n (by-frame ∙ q))
+
+    pub frame-passes : {r i : ℕ} {d : List ℕ} {p : Places} → s ≡ ok → i ≡ insOf f → d ≡ dataOf f → p ≡ placesOf c i d → r ≡ inOrder p → r ≡ statusOf c f
+    unfolding statusOf commandStatus rowsOf frames
+    frame-passes z ei ed k q = command-by c _ _ k q ∙ rw (ei, ed) (sym (first-passes frames (drop 4 (rowsOf c [] (insOf f) (dataOf f))) ok (no-reason frames ok refl (sym by-frame ∙ z))))

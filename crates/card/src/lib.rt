@@ -3,6 +3,7 @@ use access::Session;
 use columns::table;
 use commands::Places;
 use datafiles::Files;
+use frames::Faults;
 use limits::Limits;
 use logbook::Log;
 use purse::Purse;
@@ -136,19 +137,14 @@ impl Card {
     fn status(settings: Settings, purse: Purse, log: Log, session: Session, frame: &[u8]) -> u16
         ensures { λ r. ⌜ r ≡ statusOf (coreOf settings purse log session) (now (frame .entry)) ⌝ }
     {
-        let s = Card::frame_order(
-            frames::wrong_size(frame),
-            frames::wrong_class(frame),
-            frames::wrong_parameters(frame),
-            frames::wrong_frame(frame),
-        );
+        let f = Faults::asked(frame);
+        let s = Card::frame_order(f.size, f.class, f.parameters, f.frame);
         if s != Card::OK {
             return s;
         }
-        let a = frames::data_start(frame.len());
-        let e = frames::data_end(frame.len());
         let ins = wire::byte_at(frame, 1);
-        let p = Places::asked(settings, purse, log, session, ins, &frame[a..e]);
+        let d = frames::data(frame);
+        let p = Places::asked(settings, purse, log, session, ins, d);
         Card::command_order(
             p.command,
             p.length,
@@ -269,9 +265,7 @@ impl Card {
             };
         }
         let ins = wire::byte_at(frame, 1);
-        let a = frames::data_start(frame.len());
-        let e = frames::data_end(frame.len());
-        let d = &frame[a..e];
+        let d = frames::data(frame);
         if columns::shows(ins) {
             return self.shown(ins, d, reply);
         }

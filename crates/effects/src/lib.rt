@@ -39,8 +39,7 @@ pub fn next_log(log: Log, ins: u8, d: &[u8]) -> Log
     ensures { λ r. ⌜ r ≡ put log (journalAfter ins (now (d .entry)) (view log)) ⌝ }
 {
     if ins == table::WRITE_RECORD {
-        let from = frames::bytes_start(d.len());
-        return log.write(wire::le3_at(d, 1), &d[from..]);
+        return log.write(wire::le3_at(d, 1), frames::bytes_in(d));
     }
     if ins == table::CLEAR_RECORD_FILE {
         return log.clear();
@@ -59,8 +58,7 @@ pub fn next_files(files: Files, ins: u8, d: &[u8]) -> Files
     ensures { λ r. ⌜ r ≡ filesAfter ins (now (d .entry)) files ⌝ }
 {
     if ins == table::WRITE_DATA {
-        let from = frames::bytes_start(d.len());
-        return files.write(wire::byte_at(d, 0), wire::le3_at(d, 1), &d[from..]);
+        return files.write(wire::byte_at(d, 0), wire::le3_at(d, 1), frames::bytes_in(d));
     }
     files
 }

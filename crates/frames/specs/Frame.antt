@@ -4,7 +4,6 @@ use mathlib.Core.Bool.{Bool, not, _&&_, _||_}
 use mathlib.Core.List.{List}
 use lib.Dec.{ltb, leb, eqb}
 use lib.ListN.{length, getD}
-use Rattle.tables.specs.Choice.{pick}
 use Rattle.wire.specs.Bytes.{part, le3, le4}
 
 abbrev pub claOf : List ℕ → ℕ
@@ -25,15 +24,9 @@ lcOf f = getD f 4 0
 abbrev pub leOf : List ℕ → ℕ
 leOf f = getD f (length f - 1) 0
 
--- where the data field of a frame of n bytes begins and ends: empty in a frame of 5 bytes or fewer
-unfoldable pub dataStart : ℕ → ℕ
-dataStart n = pick (ltb n 5) n 5
-
-unfoldable pub dataEnd : ℕ → ℕ
-dataEnd n = pick (ltb n 6) (dataStart n) (n - 1)
-
+-- from byte 5 up to Le: empty in a frame of 5 bytes or fewer
 abbrev pub dataOf : List ℕ → List ℕ
-dataOf f = part f (dataStart (length f)) (dataEnd (length f))
+dataOf f = part f 5 (length f - 1)
 
 -- ---- the parameters in a data field
 
@@ -47,7 +40,7 @@ offsetOf d = le3 d 1
 abbrev pub lengthOf : List ℕ → ℕ
 lengthOf d = le3 d 4
 
--- the bytes of a write
+-- the bytes of a write: behind file, offset and length
 abbrev pub bytesIn : List ℕ → List ℕ
 bytesIn d = part d 7 (length d)
 
@@ -56,10 +49,6 @@ amountOf d = le4 d 1
 
 abbrev pub optionOf : List ℕ → ℕ
 optionOf d = getD d 0 0
-
--- where a write's bytes begin in a data field of n bytes: behind file, offset and length
-unfoldable pub bytesStart : ℕ → ℕ
-bytesStart n = pick (ltb n 7) n 7
 
 -- ---- places 1 to 4 of the order of checks
 

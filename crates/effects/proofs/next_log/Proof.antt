@@ -1,30 +1,16 @@
 use Rattle.effects.specs.Effects.{journalAfter}
 use Rattle.logbook.specs.Laws.{put-view}
 use Rattle.logbook.specs.View.{put}
-use Rattle.frames.specs.Laws.{bytes-inside, bytes-from}
 use Rattle.tables.specs.Choice.{order}
-use lib.ListN.{length}
-use denote.Ref.{now}
-use native.Mathlib.Omega.{arith}
 use mathlib.Core.Path.{sym, ap, _∙_}
-use borrow.Author.Needs.{needs}
 use Rattle.effects.proofs.next_log.Statement.{statement}
 use Rattle.effects.proofs.next_log.Tie as tie
-
-bytes-start-requires : tie.Need-bytes-start-requires
-bytes-start-requires c κs = tt
 
 le3-at-requires : tie.Need-le3-at-requires
 le3-at-requires c κs = tt
 
-sub-write : tie.Need-sub-write
-sub-write c = let h = bytes-inside (length (now (c .before .before .before .before .args .d))) in omega arith
-
-part-write-start : tie.Need-part-write-start
-part-write-start c = let h = bytes-inside (length (now (c .before .before .before .before .args .d))) in omega arith
-
-part-write-end : tie.Need-part-write-end
-part-write-end c = search needs
+bytes-in-requires : tie.Need-bytes-in-requires
+bytes-in-requires c κs = tt
 
 write-requires : tie.Need-write-requires
 write-requires c κs = tt
@@ -32,9 +18,8 @@ write-requires c κs = tt
 returns : tie.Need-returns
 unfolding journalAfter
 returns c =
-    let l = c .before .before in
-    let a = l .before .before .before .before .args in
-    simp (l .le3-at .ensures, l .before .bytes-start .ensures, bytes-from (now (a .d))) at (c .write .ensures) ∙ ap (put (a .log)) (search order)
+    let b = c .before in
+    simp (b .bytes-in .ensures, b .before .le3-at .ensures) at (c .write .ensures) ∙ ap (put (b .before .before .before .before .args .log)) (search order)
 
 clear-requires : tie.Need-clear-requires
 clear-requires c κs = tt
@@ -65,11 +50,8 @@ pub next-log-spec : {M : Type 1} → statement M
 next-log-spec =
     tie.close
     (tie.spec
-    bytes-start-requires
     le3-at-requires
-    sub-write
-    part-write-start
-    part-write-end
+    bytes-in-requires
     write-requires
     returns
     clear-requires

@@ -1,14 +1,10 @@
-use Rattle.wire.specs.Bytes.{part}
 use Rattle.card.specs.Laws.{bench-answers, answered-as, command-short, command-broken, command-refused, command-shows, command-quiet, moved}
 use Rattle.card.specs.View.{view}
 use Rattle.columns.specs.Table.{shows}
 use Rattle.commands.specs.Laws.{command-ok}
 use Rattle.commands.specs.Rows.{ok, statusOf, commandStatus}
-use Rattle.frames.specs.Laws.{data-inside}
 use borrow.Author.Tests.{ne-eqb}
-use lib.ListN.{length}
 use denote.Ref.{now}
-use native.Mathlib.Omega.{arith}
 use mathlib.Core.Path.{_≡_, sym, ap, _∙_}
 use borrow.Author.Needs.{needs}
 use Rattle.card.proofs.Card.command.Statement.{statement}
@@ -48,20 +44,8 @@ returns-3 c =
 byte-at-requires : tie.Need-byte-at-requires
 byte-at-requires c κs = tt
 
-data-start-requires : tie.Need-data-start-requires
-data-start-requires c κs = tt
-
-data-end-requires : tie.Need-data-end-requires
-data-end-requires c κs = tt
-
-sub-d : tie.Need-sub-d
-sub-d c = let h = data-inside (length (now (c .before .before .before .before .before .before .before .before .before .before .before .before .before .args .frame))) in omega arith
-
-part-d-start : tie.Need-part-d-start
-part-d-start c = let h = data-inside (length (now (c .before .before .before .before .before .before .before .before .before .before .before .before .before .args .frame))) in omega arith
-
-part-d-end : tie.Need-part-d-end
-part-d-end c = let h = data-inside (length (now (c .before .before .before .before .before .before .before .before .before .before .before .before .before .args .frame))) in omega arith
+data-requires : tie.Need-data-requires
+data-requires c κs = tt
 
 shows-requires : tie.Need-shows-requires
 shows-requires c κs = tt
@@ -69,10 +53,10 @@ shows-requires c κs = tt
 shown-requires : tie.Need-shown-requires
 unfolding view
 shown-requires c κs =
-    let a = c .before .before .before .before .before .before .before .before .before .before .before .before .before .before .before .before .before .args in
-    let e : statusOf (view (a .self) .core) (now (a .frame)) ≡ ok = sym (c .before .before .before .before .before .before .before .before .status .ensures) ∙ c .before .before .before .before .before .before .before .if3 .left in
-    let k = command-ok (view (a .self) .core) (now (a .frame)) e in
-    (sym (c .before .before .shows .ensures) ∙ c .before .if4 .taken, rw (c .before .before .before .before .before .before .byte-at .ensures, c .before .before .before .before .before .data-start .ensures, c .before .before .before .before .data-end .ensures) k, sym (c .before .before .before .before .before .before .before .before .before .before .breaks .ensures) ∙ c .before .before .before .before .before .before .before .before .before .if2 .left, c .before .before .before .before .before .before .before .before .before .before .before .if1 .left)
+    let b = c .before .before .before .before in
+    let a = b .before .before .before .before .before .before .before .before .before .before .before .args in
+    let e : statusOf (view (a .self) .core) (now (a .frame)) ≡ ok = sym (b .before .before .status .ensures) ∙ b .before .if3 .left in
+    (sym (c .before .before .shows .ensures) ∙ c .before .if4 .taken, rw (b .byte-at .ensures, c .before .before .before .data .ensures) (command-ok (view (a .self) .core) (now (a .frame)) e), sym (b .before .before .before .before .breaks .ensures) ∙ b .before .before .before .if2 .left, b .before .before .before .before .before .if1 .left)
 
 same-length-2 : tie.Need-same-length-2
 same-length-2 c = search needs
@@ -80,9 +64,10 @@ same-length-2 c = search needs
 returns-4 : tie.Need-returns-4
 unfolding view
 returns-4 c =
-    let a = c .before .before .before .before .before .before .before .before .before .before .before .before .before .before .before .before .before .before .before .before .args in
-    let e : statusOf (view (a .self) .core) (now (a .frame)) ≡ ok = sym (c .before .before .before .before .before .before .before .before .before .before .before .status .ensures) ∙ c .before .before .before .before .before .before .before .before .before .before .if3 .left in
-    command-shows (a .self) (now (a .frame)) (now (a .reply)) (c .before .before .before .before .before .before .before .before .before .before .before .before .before .before .if1 .left) (sym (c .before .before .before .before .before .before .before .before .before .before .before .before .before .breaks .ensures) ∙ c .before .before .before .before .before .before .before .before .before .before .before .before .if2 .left) e (rw (c .before .before .before .before .before .before .before .before .before .byte-at .ensures, c .before .before .before .before .before .before .before .before .data-start .ensures, c .before .before .before .before .before .before .before .data-end .ensures) at (c .before .before .shown .ensures))
+    let b = c .before .before .before .before .before .before .before in
+    let a = b .before .before .before .before .before .before .before .before .before .before .before .args in
+    let e : statusOf (view (a .self) .core) (now (a .frame)) ≡ ok = sym (b .before .before .status .ensures) ∙ b .before .if3 .left in
+    command-shows (a .self) (now (a .frame)) (now (a .reply)) (b .before .before .before .before .before .if1 .left) (sym (b .before .before .before .before .breaks .ensures) ∙ b .before .before .before .if2 .left) e (rw (b .byte-at .ensures, c .before .before .before .before .before .before .data .ensures) at (c .before .before .shown .ensures))
 
 put-status-requires-2 : tie.Need-put-status-requires-2
 put-status-requires-2 c κs = tt
@@ -96,11 +81,12 @@ same-length-3 c = search needs
 returns-5 : tie.Need-returns-5
 unfolding view
 returns-5 c =
-    let a = c .before .before .before .before .before .before .before .before .before .before .before .before .before .before .before .before .before .before .before .before .before .before .args in
-    let e : statusOf (view (a .self) .core) (now (a .frame)) ≡ ok = sym (c .before .before .before .before .before .before .before .before .before .before .before .before .before .status .ensures) ∙ c .before .before .before .before .before .before .before .before .before .before .before .before .if3 .left in
-    let t = sym (ap shows (c .before .before .before .before .before .before .before .before .before .before .before .byte-at .ensures)) ∙ sym (c .before .before .before .before .before .before .before .shows .ensures) ∙ c .before .before .before .before .before .before .if4 .left in
-    let i = sym (c .before .before .before .before .before .before .before .before .before .before .before .byte-at .ensures) ∙ c .before .if5 .taken in
-    command-quiet (a .self) (now (a .frame)) (now (a .reply)) (c .before .before .before .before .before .before .before .before .before .before .before .before .before .before .before .before .if1 .left) (sym (c .before .before .before .before .before .before .before .before .before .before .before .before .before .before .before .breaks .ensures) ∙ c .before .before .before .before .before .before .before .before .before .before .before .before .before .before .if2 .left) e t (rw (i, sym (c .before .before .before .before .before .before .before .before .before .before .data-start .ensures), sym (c .before .before .before .before .before .before .before .before .before .data-end .ensures)) (c .written .ensures)) (c .before .before .before .before .put-status2 .ensures)
+    let b = c .before .before .before .before .before .before .before .before .before in
+    let a = b .before .before .before .before .before .before .before .before .before .before .before .args in
+    let e : statusOf (view (a .self) .core) (now (a .frame)) ≡ ok = sym (b .before .before .status .ensures) ∙ b .before .if3 .left in
+    let t = sym (ap shows (b .byte-at .ensures)) ∙ sym (c .before .before .before .before .before .before .before .shows .ensures) ∙ c .before .before .before .before .before .before .if4 .left in
+    let i = sym (b .byte-at .ensures) ∙ c .before .if5 .taken in
+    command-quiet (a .self) (now (a .frame)) (now (a .reply)) (b .before .before .before .before .before .if1 .left) (sym (b .before .before .before .before .breaks .ensures) ∙ b .before .before .before .if2 .left) e t (rw (i, sym (c .before .before .before .before .before .before .before .before .data .ensures)) (c .written .ensures)) (c .before .before .before .before .put-status2 .ensures)
 
 next-purse-requires : tie.Need-next-purse-requires
 next-purse-requires c κs = tt
@@ -114,13 +100,14 @@ same-length-4 c = search needs
 returns-6 : tie.Need-returns-6
 unfolding view
 returns-6 c =
-    let a = c .before .before .before .before .before .before .before .before .before .before .before .before .before .before .before .before .before .before .before .before .before .before .before .before .args in
-    let s : c .before .before .before .before .before .before .before .before .before .before .before .before .before .before .before .status .result ≡ ok = c .before .before .before .before .before .before .before .before .before .before .before .before .before .before .if3 .left in
-    let e : statusOf (view (a .self) .core) (now (a .frame)) ≡ ok = sym (c .before .before .before .before .before .before .before .before .before .before .before .before .before .before .before .status .ensures) ∙ s in
-    let t = sym (ap shows (c .before .before .before .before .before .before .before .before .before .before .before .before .before .byte-at .ensures)) ∙ sym (c .before .before .before .before .before .before .before .before .before .shows .ensures) ∙ c .before .before .before .before .before .before .before .before .if4 .left in
-    let k : commandStatus (view (a .self) .core) (c .before .before .before .before .before .before .before .before .before .before .before .before .before .byte-at .result) (part (now (a .frame)) (c .before .before .before .before .before .before .before .before .before .before .before .before .data-start .result) (c .before .before .before .before .before .before .before .before .before .before .before .data-end .result)) ≡ ok = rw (c .before .before .before .before .before .before .before .before .before .before .before .before .before .byte-at .ensures, c .before .before .before .before .before .before .before .before .before .before .before .before .data-start .ensures, c .before .before .before .before .before .before .before .before .before .before .before .data-end .ensures) (command-ok (view (a .self) .core) (now (a .frame)) e) in
-    let m = moved (a .self) (c .before .before .before .before .before .before .before .before .before .before .before .before .before .byte-at .result) (part (now (a .frame)) (c .before .before .before .before .before .before .before .before .before .before .before .before .data-start .result) (c .before .before .before .before .before .before .before .before .before .before .before .data-end .result)) _ _ k (ne-eqb _ _ (c .before .before .before .if5 .left)) (c .before .next-purse .ensures) (c .next-log .ensures) in
-    command-quiet (a .self) (now (a .frame)) (now (a .reply)) (c .before .before .before .before .before .before .before .before .before .before .before .before .before .before .before .before .before .before .if1 .left) (sym (c .before .before .before .before .before .before .before .before .before .before .before .before .before .before .before .before .before .breaks .ensures) ∙ c .before .before .before .before .before .before .before .before .before .before .before .before .before .before .before .before .if2 .left) e t (rw (sym (c .before .before .before .before .before .before .before .before .before .before .before .before .before .byte-at .ensures), sym (c .before .before .before .before .before .before .before .before .before .before .before .before .data-start .ensures), sym (c .before .before .before .before .before .before .before .before .before .before .before .data-end .ensures)) m) (c .before .before .before .before .before .before .put-status2 .ensures)
+    let b = c .before .before .before .before .before .before .before .before .before .before .before in
+    let a = b .before .before .before .before .before .before .before .before .before .before .before .args in
+    let e : statusOf (view (a .self) .core) (now (a .frame)) ≡ ok = sym (b .before .before .status .ensures) ∙ b .before .if3 .left in
+    let d = c .before .before .before .before .before .before .before .before .before .before .data in
+    let t = sym (ap shows (b .byte-at .ensures)) ∙ sym (c .before .before .before .before .before .before .before .before .before .shows .ensures) ∙ c .before .before .before .before .before .before .before .before .if4 .left in
+    let k : commandStatus (view (a .self) .core) (b .byte-at .result) (now (d .result)) ≡ ok = rw (b .byte-at .ensures, d .ensures) (command-ok (view (a .self) .core) (now (a .frame)) e) in
+    let m = moved (a .self) (b .byte-at .result) (now (d .result)) _ _ k (ne-eqb _ _ (c .before .before .before .if5 .left)) (c .before .next-purse .ensures) (c .next-log .ensures) in
+    command-quiet (a .self) (now (a .frame)) (now (a .reply)) (b .before .before .before .before .before .if1 .left) (sym (b .before .before .before .before .breaks .ensures) ∙ b .before .before .before .if2 .left) e t (rw (b .byte-at .ensures, d .ensures) at m) (c .before .before .before .before .before .before .put-status2 .ensures)
 
 pub command-spec : {M : Type 1} → statement M
 command-spec =
@@ -135,11 +122,7 @@ command-spec =
     same-length
     returns-3
     byte-at-requires
-    data-start-requires
-    data-end-requires
-    sub-d
-    part-d-start
-    part-d-end
+    data-requires
     shows-requires
     shown-requires
     same-length-2
