@@ -5,9 +5,6 @@ use libc::STDOUT_FILENO;
 ghost use Prim.Native.Nat.{_+_, _≤_};
 ghost use lib.ListN.{length};
 
-// A line that is longer is answered `?` however it goes on, so that no more of it is kept.
-const LONGEST_KEPT: usize = 1025;
-
 struct Answered {
     desk: Desk,
     read: usize,
@@ -61,42 +58,13 @@ fn answer_all(desk: Desk, text: &[u8]) -> Answered
     Answered { desk, read: at }
 }
 
-// Moves what stands from place from up to place to to the front.
-fn move_down(buf: &mut [u8], from: usize, to: usize)
-    requires { ⌜ (from ≤ to) × (to ≤ length (now buf)) ⌝ }
-{
-    let mut i = 0;
-    while i < to - from {
-        buf[i] = buf[from + i];
-        i += 1;
-    }
-}
-
-// Keeps what was not answered of the first end characters, at the front.
-fn keep_rest(buf: &mut [u8], read: usize, end: usize) -> usize
-    requires { ⌜ (read ≤ end) × (end ≤ length (now buf)) ⌝ }
-    ensures { λ r. ⌜ r ≤ 1025 ⌝ }
-{
-    if LONGEST_KEPT < end - read {
-        move_down(buf, read, read + LONGEST_KEPT);
-        return LONGEST_KEPT;
-    }
-    move_down(buf, read, end);
-    end - read
-}
-
-fn end_line(buf: &mut [u8], at: usize)
-    requires { ⌜ at + 1 ≤ length (now buf) ⌝ }
-{
-    buf[at] = b'\n';
-}
-
 // The last line may lack its LF.
 fn finish(desk: Desk, held: usize, buf: &mut [u8])
     requires { ⌜ (held ≤ 1025) × (2048 ≤ length (now buf)) ⌝ }
 {
     if 0 < held {
-        end_line(buf, held);
+        let end = [b'\n'];
+        wire::lay(buf, held, &end);
         answer_all(desk, &buf[0..held + 1]);
     }
 }
@@ -120,7 +88,7 @@ fn serve_block(desk: Desk, held: usize, buf: &mut [u8]) -> Served
     let answered = answer_all(desk, &buf[0..end]);
     let next = answered.desk;
     let read = answered.read;
-    let kept = keep_rest(buf, read, end);
+    let kept = blocks::keep_rest(buf, read, end);
     Served {
         desk: next,
         held: kept,
