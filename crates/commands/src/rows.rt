@@ -103,11 +103,16 @@ fn room_of(ins: u8, n: u8, entries: u8) -> usize
 fn amount_is_outside(limits: Limits, purse: Purse, ins: u8, amount: u32) -> bool
     ensures { λ r. ⌜ r ≡ outsideAmount limits purse ins amount ⌝ }
 {
-    let rises = limits.hold_rise(purse.pending, amount);
-    let falls = limits.hold_fall(purse.pending, amount);
-    ((ins == table::CREDIT) & !rises)
-        | ((ins == table::DEBIT) & !falls)
-        | ((ins == table::LIMITED_CREDIT) & (!rises | (purse.left < amount)))
+    if ins == table::DEBIT {
+        return !limits.hold_fall(purse.pending, amount);
+    }
+    if ins == table::CREDIT {
+        return !limits.hold_rise(purse.pending, amount);
+    }
+    if ins == table::LIMITED_CREDIT {
+        return !limits.hold_rise(purse.pending, amount) | (purse.left < amount);
+    }
+    false
 }
 
 pub fn is_outside(limits: Limits, purse: Purse, entries: u8, ins: u8, d: &[u8]) -> bool

@@ -18,12 +18,11 @@ struct Served {
     more: bool,
 }
 
-// Answers the whole lines of a text, as many as fit a buffer.
-fn answer_some(desk: Desk, text: &[u8]) -> Answered
+// Answers the whole lines of a text, as many as fit the buffer out.
+fn answer_some(desk: Desk, text: &[u8], out: &mut [u8]) -> Answered
     ensures { λ r. ⌜ r .read ≤ length (now (text .entry)) ⌝ }
 {
-    let mut out = io::large_buffer();
-    let went = script::run(desk, text, &mut out);
+    let went = script::run(desk, text, out);
     let n = went.written;
     if n <= out.len() {
         io::write_all(STDOUT_FILENO, &out[0..n]);
@@ -40,13 +39,13 @@ fn answer_some(desk: Desk, text: &[u8]) -> Answered
 }
 
 // Answers all whole lines of a text.
-fn answer_all(desk: Desk, text: &[u8]) -> Answered
+fn answer_all(desk: Desk, text: &[u8], out: &mut [u8]) -> Answered
     ensures { λ r. ⌜ r .read ≤ length (now (text .entry)) ⌝ }
 {
     let mut desk = desk;
     let mut at = 0;
     while at < text.len() {
-        let some = answer_some(desk, &text[at..]);
+        let some = answer_some(desk, &text[at..], out);
         let next = some.desk;
         desk = next;
         let read = some.read;
@@ -59,25 +58,25 @@ fn answer_all(desk: Desk, text: &[u8]) -> Answered
 }
 
 // The last line may lack its LF.
-fn finish(desk: Desk, held: usize, buf: &mut [u8])
+fn finish(desk: Desk, held: usize, buf: &mut [u8], out: &mut [u8])
     requires { ⌜ (held ≤ 1025) × (2048 ≤ length (now buf)) ⌝ }
 {
     if 0 < held {
         let end = [b'\n'];
         wire::lay(buf, held, &end);
-        answer_all(desk, &buf[0..held + 1]);
+        answer_all(desk, &buf[0..held + 1], out);
     }
 }
 
 // Reads a block behind the held characters and answers its whole lines.
-fn serve_block(desk: Desk, held: usize, buf: &mut [u8]) -> Served
+fn serve_block(desk: Desk, held: usize, buf: &mut [u8], out: &mut [u8]) -> Served
     requires { ⌜ (held ≤ 1025) × (2048 ≤ length (now buf)) ⌝ }
     ensures { λ r. ⌜ r .held ≤ 1025 ⌝ }
 {
     let got = libc::read(STDIN_FILENO, &mut buf[held..]);
     let n = io::count(got, &buf[held..]);
     if n == 0 {
-        finish(desk, held, buf);
+        finish(desk, held, buf, out);
         return Served {
             desk,
             held: 0,
@@ -85,7 +84,7 @@ fn serve_block(desk: Desk, held: usize, buf: &mut [u8]) -> Served
         };
     }
     let end = held + n;
-    let answered = answer_all(desk, &buf[0..end]);
+    let answered = answer_all(desk, &buf[0..end], out);
     let next = answered.desk;
     let read = answered.read;
     let kept = blocks::keep_rest(buf, read, end);
@@ -96,14 +95,15 @@ fn serve_block(desk: Desk, held: usize, buf: &mut [u8]) -> Served
     }
 }
 
-// Serves a desk until the input ends. The loop counts its turns down, from a number that no run uses up.
+// Serves a desk until the input ends. Both buffers are made once: to fill one with zeros takes as long as many answers. The loop counts its turns down, from a number that no run uses up.
 pub fn serve(desk: Desk) {
     let mut buf = io::large_buffer();
+    let mut out = io::large_buffer();
     let mut desk = desk;
     let mut held = 0;
     let mut turns = u64::MAX;
     while turns > 0 {
-        let served = serve_block(desk, held, &mut buf);
+        let served = serve_block(desk, held, &mut buf, &mut out);
         if !served.more {
             return;
         }

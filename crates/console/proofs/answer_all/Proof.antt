@@ -1,3 +1,4 @@
+use mathlib.Core.Path.{_≡_}
 use Prim.Native.Nat.{_≤_, _-_}
 use lib.ListN.{length}
 use borrow.Author.Needs.{needs}
@@ -5,10 +6,10 @@ use Rattle.console.proofs.answer_all.Statement.{statement}
 use Rattle.console.proofs.answer_all.Tie as tie
 
 abbrev Inv-loop : tie.InvT-loop
-Inv-loop text desk₀ at₀ desk at = at ≤ length text
+Inv-loop text out₀ desk₀ at₀ out desk at = (at ≤ length text) × (length out ≡ length out₀)
 
 abbrev μ-loop : tie.MeasureT-loop
-μ-loop text desk₀ at₀ desk at = length text - at
+μ-loop text out₀ desk₀ at₀ out desk at = length text - at
 
 loop-holds : tie.Need-loop-holds Inv-loop μ-loop
 loop-holds c = search needs
@@ -25,6 +26,9 @@ part-answer-some-end c = search needs
 answer-some-requires : tie.Need-answer-some-requires Inv-loop μ-loop
 answer-some-requires c κs = search needs
 
+same-length : tie.Need-same-length Inv-loop μ-loop
+same-length c = search needs
+
 returns : tie.Need-returns Inv-loop μ-loop
 returns c = search needs
 
@@ -36,6 +40,9 @@ loop-less c = search needs
 
 loop-again : tie.Need-loop-again Inv-loop μ-loop
 loop-again c = search needs
+
+same-length-2 : tie.Need-same-length-2 Inv-loop μ-loop
+same-length-2 c = search needs
 
 returns-2 : tie.Need-returns-2 Inv-loop μ-loop
 returns-2 c = search needs
@@ -51,8 +58,10 @@ answer-all-spec =
     part-answer-some-start
     part-answer-some-end
     answer-some-requires
+    same-length
     returns
     add-at
     loop-less
     loop-again
+    same-length-2
     returns-2)
