@@ -40,7 +40,7 @@ fn put_reply(refusal: u8, bytes: &[u8], answer: &mut [u8]) -> usize
 }
 
 // Whether the answer to a reply of len bytes and its LF fit so many places.
-pub fn fits(refusal: u8, len: usize, room: usize) -> bool
+fn fits(refusal: u8, len: usize, room: usize) -> bool
     ensures { λ r. ⌜ r ≡ ltb (replySize refusal len) room ⌝ }
 {
     if refusal != 0 {

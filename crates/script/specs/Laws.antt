@@ -1,6 +1,6 @@
 -- Laws of answers laid into buffers.
 use Prim.Native.Nat.{ℕ, _+_, _-_, _≤_}
-use mathlib.Core.List.{List, [], _++_}
+use mathlib.Core.List.{List, [], _∷_, _++_}
 use mathlib.Core.Bool.{Bool, true, false, _&&_}
 use mathlib.Core.Path.{_≡_, refl, sym, ap, subst, _∙_}
 use lib.ListN.{length, take, drop}
@@ -16,7 +16,7 @@ use Rattle.text.specs.Hex.{isHex, spelt}
 use Rattle.text.specs.Hex.{leading}
 use Rattle.text.specs.Adds.{front-laid, front-fits}
 use Rattle.text.specs.Laws.{leading-most, leading-all, room-yes}
-use Rattle.text.specs.Shown.{inRoom}
+use Rattle.text.specs.Shown.{inRoom, Adds}
 use Rattle.answers.specs.Answers.{numbered, refusalText}
 use Rattle.answers.specs.Laws.{length-numbered, length-refusal}
 use Rattle.card.specs.declared.Card.{Card}
@@ -103,6 +103,17 @@ pub said-desk : (s : Said) (r : Told) → r ≡ toldOf s → r .desk ≡ s .desk
 unfolding toldOf
 said-desk s r e = ap (λ (x : Told). x .desk) e
 
+-- it fits the buffer that it was laid into
+pub said-fits : (s : Said) (b after : List ℕ) (r : Told) → Tells s b after r → length after ≡ length b → r .len ≤ length b
+said-fits s b after r h l = rw (said-size s r (h .0)) (front-fits b (s .out) (ap length (sym (h .1)) ∙ l))
+
+-- and was put behind place n of out from there, with its LF
+pub said-put : (s : Said) (b after : List ℕ) (r : Told) → Tells s b after r → (out : List ℕ) (n : ℕ) (x : List ℕ) (m : ℕ)
+    → Adds (inRoom (length out - n) (part after 0 (r .len) ++ 0x0A ∷ [])) out n x m → Adds (inRoom (length out - n) (s .out ++ 0x0A ∷ [])) out n x m
+said-put s b after r h out n x m a =
+    let e : part after 0 (r .len) ≡ s .out = rw (sub-zero (r .len), said-size s r (h .0), h .1) (front-laid b (s .out)) in
+    rw e at a
+
 -- ---- answers of the events
 
 -- a text that fits the buffer was shown in it
@@ -131,31 +142,3 @@ unfolding powered
 tells-powered k r b after n e h w =
     let l = length-refusal (r .refusal) in
     tells-room (powered k) _ (refusalText (r .refusal)) b after n (next k (poweredUp (k .card)) r e b after n h) (ap refusalText (number k (poweredUp (k .card)) r e b after n h)) (omega arith) w
-
--- ---- no line changes what lines the desk takes
-
-unfoldable Benched : Desk → Said → Type 0
-Benched k s = s .desk .bench ≡ k .bench
-
-lettered-bench : (k : Desk) (letter n : ℕ) (digits : Bool) (b : List ℕ) → Benched k (letteredBy k letter n digits b)
-unfolding Benched letteredBy counted withCard lent bookKept unread
-lettered-bench k letter n digits b =
-    pick-both (Benched k) _ _ _ refl
-    (pick-both (Benched k) _ _ _ refl
-    (pick-both (Benched k) _ _ _ refl
-    (pick-both (Benched k) _ _ _ (pick-both (Benched k) _ _ _ refl refl)
-    (pick-both (Benched k) _ _ _ refl refl))))
-
-said-bench : (k : Desk) (l : List ℕ) → Benched k (lineSaid k l)
-unfolding Benched lineSaid unread powered replied withCard lettered
-said-bench k l =
-    pick-both (Benched k) _ _ _ refl
-    (pick-both (Benched k) _ _ _ refl
-    (pick-both (Benched k) _ _ _ refl
-    (pick-both (Benched k) _ _ _ (lettered-bench k _ _ _ _) refl)))
-
-pub kept-bench : (k : Desk) (l : List ℕ) (d : Desk) → d ≡ lineSaid k l .desk → record { card = d .card; room = d .room; bench = k .bench } ≡ lineSaid k l .desk
-unfolding Benched
-kept-bench k l d e =
-    let b = ap (λ (x : Desk). x .bench) e ∙ said-bench k l in
-    ap (λ (t : Bool). record { card = d .card; room = d .room; bench = t }) (sym b) ∙ e

@@ -29,38 +29,19 @@ module _ (k : Desk) (l : List ℕ) (o : Outcome) (r : Reply) (after : List ℕ) 
       let m : r .refusal ≡ o .refusal = ap (λ (x : Reply). x .refusal) (p .0) in
       ap (λ (x : Said). x .out) e ∙ rw (b, m) refl
 
-  size : length (lineSaid k l .out) ≡ replySize (r .refusal) (r .len)
-  unfolding replyOf
-  size =
-      let b = reply-bytes o after r p .0 in
-      let n : r .len ≡ length (o .out) = ap (λ (x : Reply). x .len) (p .0) in
-      ap length text ∙ (length-reply (r .refusal) (part after 0 (r .len)) ∙ ap (replySize (r .refusal)) (ap length b ∙ sym n))
-
   desk : record { card = r .card; room = k .room; bench = k .bench } ≡ lineSaid k l .desk
   unfolding replied withCard replyOf
   desk = ap (λ (x : Reply). record { card = x .card; room = k .room; bench = k .bench }) (p .0) ∙ sym (ap (λ (x : Said). x .desk) e)
 
 module _ (k₀ : Desk) (t b : List ℕ) (k : Desk) (at n : ℕ) (out : List ℕ) (s : Sofar k₀ t b k at n out) (at' : ℕ) (l : Lines t at at') (h : at ≤ at') (i : at' < length t)
     (o : Outcome) (r : Reply) (after : List ℕ) (e : lineSaid k (part t at at') ≡ replied k o) (p : Plays o after r) where
-  pub played-full : ltb (replySize (r .refusal) (r .len)) (length out - n) ≡ false
-      → Goes (went k₀ (linesAfter [] t) (length b)) b out (record { desk = k; read = at; written = n })
-  played-full f =
-      let z = size k (part t at at') o r after e p in
-      let g = ltb-false (replySize (r .refusal) (r .len)) (length out - n) f in
-      sofar-full k₀ t b k at n out s at' l h i (le-leb (length out - n) (length (lineSaid k (part t at at') .out)) (omega arith))
+  module _ (x : List ℕ) (m : ℕ) (a : Adds (inRoom (length out - n) (replyLine (r .refusal) (part after 0 (r .len)))) out n x m) where
+    said : Adds (inRoom (length out - n) (lineSaid k (part t at at') .out ++ 0x0A ∷ [])) out n x m
+    unfolding replyLine
+    said = rw (text k (part t at at') o r after e p) a
 
-  pub played-next : (x : List ℕ) (m : ℕ) → ltb (replySize (r .refusal) (r .len)) (length out - n) ≡ true
-      → Adds (inRoom (length out - n) (replyLine (r .refusal) (part after 0 (r .len)))) out n x m
-      → Sofar k₀ t b (record { card = r .card; room = k .room; bench = k .bench }) (at' + 1) m x
-  unfolding replyLine
-  played-next x m f a =
-      let z = size k (part t at at') o r after e p in
-      let w = text k (part t at at') o r after e p in
-      let g = ltb-true (replySize (r .refusal) (r .len)) (length out - n) f in
-      let y = length-line (r .refusal) (part after 0 (r .len)) in
-      let v = length-reply (r .refusal) (part after 0 (r .len)) in
-      let u = room-yes (length out - n) (replyText (r .refusal) (part after 0 (r .len)) ++ 0x0A ∷ []) (omega (arith, ap length w)) in
-      let c = ap length w in
-      let q : x ≡ laid out n (lineSaid k (part t at at') .out ++ 0x0A ∷ []) = a .0 ∙ ap (laid out n) (u ∙ ap (λ (d : List ℕ). d ++ 0x0A ∷ []) (sym w)) in
-      let d = sofar-next k₀ t b k at n out s at' l h i x (lt-leb (length out - n) (length (lineSaid k (part t at at') .out)) (omega arith)) q in
-      sofar-as k₀ t b _ _ (at' + 1) _ _ x (desk k (part t at at') o r after e p) (omega (arith, a .1, ap length u)) d
+    pub played-full : m ≡ n → Goes (went k₀ (linesAfter [] t) (length b)) b x (record { desk = k; read = at; written = n })
+    played-full q = sofar-full k₀ t b k at n out s at' l h i x m said q
+
+    pub played-next : (m ≡ n → ⊥) → Sofar k₀ t b (record { card = r .card; room = k .room; bench = k .bench }) (at' + 1) m x
+    played-next q = sofar-as k₀ t b _ _ (at' + 1) m x (desk k (part t at at') o r after e p) (sofar-next k₀ t b k at n out s at' l h i x m said q)

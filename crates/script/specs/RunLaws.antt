@@ -1,23 +1,22 @@
 -- Laws of lines in a text, and of a run line by line.
 use Prim.Native.Nat.{ℕ, suc, _+_, _-_, _≤_, _<_}
-use mathlib.Core.Bool.{Bool, true, false, true≢false}
+use mathlib.Core.Bool.{Bool, true, false}
 use mathlib.Core.List.{List, [], _∷_, _++_}
 use mathlib.Core.Path.{_≡_, refl, sym, ap, _∙_}
-use borrow.Author.Tests.{eq-eqb, ne-eqb, le-leb, lt-leb}
+use borrow.Author.Tests.{eq-eqb, ne-eqb, leb-true, leb-false}
 use lib.Dec.{leb, ltb}
-use lib.ListN.{length, drop, getD, length-drop, drop-of-length-le}
+use lib.ListN.{length, drop, getD, length-append, length-drop, drop-of-length-le}
 use lib.Seq.{take-suc, drop-cons, getD-drop}
+use native.Mathlib.Nat.{add-zero}
 use native.Mathlib.Numerals.{add-one}
 use native.Mathlib.Omega.{arith}
 use Rattle.tables.specs.Choice.{pick, picked, passed}
 use Rattle.wire.specs.Bytes.{part, laid, laidIn}
 use Rattle.wire.specs.Laws.{length-laid}
-use Rattle.desk.specs.declared.Desk.{Desk}
-use Rattle.script.specs.declared.Step.{Step}
 use Rattle.text.specs.Hex.{isHex}
-use Rattle.text.specs.Shown.{Adds}
-use Rattle.text.specs.Adds.{adds-then, adds-room}
-use Rattle.script.specs.Lines.{Said}
+use Rattle.text.specs.Laws.{room-yes, room-no}
+use Rattle.text.specs.Shown.{inRoom, Adds}
+use Rattle.text.specs.Adds.{adds-none, adds-then, adds-room}
 use Rattle.script.specs.Run.{linesAfter}
 
 -- the lines of a text from place at on: none where no LF follows, else the one up to place e, and those behind it
@@ -55,42 +54,39 @@ pub lines-none : (held t : List ℕ) (i : ℕ) → length t ≤ i → linesAfter
 unfolding linesAfter
 lines-none held t i h = rw (drop-of-length-le t {i = i} h)
 
--- ---- one line
+-- ---- one answer
 
--- the answer s was added behind place at, or nothing was where it does not fit
-abbrev pub Stepped : Said → Desk → ℕ → List ℕ → List ℕ → Step → Type 0
-Stepped s k at before after r =
-    (r ≡ pick (leb (length before - at) (length (s .out))) (record { desk = k; at = at; fits = false }) (record { desk = s .desk; at = at + length (s .out) + 1; fits = true }))
-    × (after ≡ pick (leb (length before - at) (length (s .out))) before (laid before at (s .out ++ 0x0A ∷ [])))
+-- an answer y and its LF, put behind place n of b where they fit
+module _ (y b : List ℕ) (n : ℕ) where
+  size : length (y ++ 0x0A ∷ []) ≡ length y + 1
+  size = length-append y (0x0A ∷ [])
 
-pub step-short : (s : Said) (k : Desk) (at len : ℕ) (b : List ℕ) → len ≡ length (s .out) → length b - at ≤ len → Stepped s k at b b (record { desk = k; at = at; fits = false })
-step-short s k at len b e h =
-    let t : leb (length b - at) (length (s .out)) ≡ true = le-leb _ _ (rw e at h) in
-    (sym (picked _ _ t), sym (picked _ _ t))
+  pub put-short : length b - n ≤ length y → Adds (inRoom (length b - n) (y ++ 0x0A ∷ [])) b n b n
+  put-short h = rw (room-no (length b - n) (y ++ 0x0A ∷ []) (omega (arith, size))) (adds-none b n)
 
-pub step-fits : (s : Said) (k d : Desk) (at len : ℕ) (b m e : List ℕ) → len ≡ length (s .out) → len < length b - at → at ≤ length b → d ≡ s .desk
-    → Adds (s .out) b at m (at + len) → e ≡ laidIn m (at + len) (0x0A ∷ []) → Stepped s k at b e (record { desk = d; at = at + len + 1; fits = true })
-step-fits s k d at len b m e l h q ed a f =
-    let t : leb (length b - at) (length (s .out)) ≡ false = lt-leb _ _ (rw l at h) in
-    let g : length m ≡ length b = ap length (a .0) ∙ length-laid b at (s .out) (omega arith) in
-    let z = adds-then (s .out) (0x0A ∷ []) b at a (adds-room (0x0A ∷ []) m (at + len) (omega arith) f) in
-    (rw (ed, l) (sym (passed _ _ t)), z .0 ∙ sym (passed _ _ t))
+  pub put-all : (m e : List ℕ) → length y < length b - n → m ≡ laidIn b n y → e ≡ laidIn m (n + length y) (0x0A ∷ [])
+      → Adds (inRoom (length b - n) (y ++ 0x0A ∷ [])) b n e (n + length y + 1)
+  put-all m e h p q =
+      let a = adds-room y b n (omega arith) p in
+      let g : length m ≡ length b = ap length (a .0) ∙ length-laid b n y (omega arith) in
+      rw (room-yes (length b - n) (y ++ 0x0A ∷ []) (omega (arith, size))) (adds-then y (0x0A ∷ []) b n a (adds-room (0x0A ∷ []) m (n + length y) (omega arith) q))
 
--- which of the two it was
-module _ (s : Said) (k : Desk) (at : ℕ) (b a : List ℕ) (r : Step) (h : Stepped s k at b a r) where
-  pub step-stopped : r .fits ≡ false → (leb (length b - at) (length (s .out)) ≡ true) × (a ≡ b)
-  step-stopped e = by (leb (length b - at) (length (s .out))) (h .0) (h .1)
-    where
-      by : (t : Bool) → r ≡ pick t (record { desk = k; at = at; fits = false }) (record { desk = s .desk; at = at + length (s .out) + 1; fits = true })
-          → a ≡ pick t b (laid b at (s .out ++ 0x0A ∷ [])) → (t ≡ true) × (a ≡ b)
-      by true p q = unfold pick in (refl, q)
-      by false p q = unfold pick in absurd (true≢false (sym (ap (λ (x : Step). x .fits) p) ∙ e))
+  -- m is the place behind them: whether they fit
+  module _ (x : List ℕ) (m : ℕ) (a : Adds (inRoom (length b - n) (y ++ 0x0A ∷ [])) b n x m) where
+    pub put-none : m ≡ n → (length b - n ≤ length y) × (x ≡ b)
+    put-none q = by (leb (length (y ++ 0x0A ∷ [])) (length b - n)) refl
+      where
+        by : (f : Bool) → leb (length (y ++ 0x0A ∷ [])) (length b - n) ≡ f → (length b - n ≤ length y) × (x ≡ b)
+        by true f = let g = room-yes (length b - n) (y ++ 0x0A ∷ []) (leb-true _ _ f) in absurd (omega (arith, a .1, ap length g, size))
+        by false f =
+            let h = leb-false (length (y ++ 0x0A ∷ [])) (length b - n) f in
+            (omega (arith, size), a .0 ∙ (ap (laid b n) (room-no (length b - n) (y ++ 0x0A ∷ []) h) ∙ sym (adds-none b n .0)))
 
-  pub step-went : r .fits ≡ true
-      → (leb (length b - at) (length (s .out)) ≡ false) × (a ≡ laid b at (s .out ++ 0x0A ∷ [])) × (r .desk ≡ s .desk) × (r .at ≡ at + length (s .out) + 1)
-  step-went e = by (leb (length b - at) (length (s .out))) (h .0) (h .1)
-    where
-      by : (t : Bool) → r ≡ pick t (record { desk = k; at = at; fits = false }) (record { desk = s .desk; at = at + length (s .out) + 1; fits = true })
-          → a ≡ pick t b (laid b at (s .out ++ 0x0A ∷ [])) → (t ≡ false) × (a ≡ laid b at (s .out ++ 0x0A ∷ [])) × (r .desk ≡ s .desk) × (r .at ≡ at + length (s .out) + 1)
-      by true p q = unfold pick in absurd (true≢false (sym e ∙ ap (λ (x : Step). x .fits) p))
-      by false p q = unfold pick in (refl, q, ap (λ (x : Step). x .desk) p, ap (λ (x : Step). x .at) p)
+    pub put-some : (m ≡ n → ⊥) → (length y < length b - n) × Adds (y ++ 0x0A ∷ []) b n x m
+    put-some q = by (leb (length (y ++ 0x0A ∷ [])) (length b - n)) refl
+      where
+        by : (f : Bool) → leb (length (y ++ 0x0A ∷ [])) (length b - n) ≡ f → (length y < length b - n) × Adds (y ++ 0x0A ∷ []) b n x m
+        by true f =
+            let h = leb-true (length (y ++ 0x0A ∷ [])) (length b - n) f in
+            (omega (arith, size), rw (room-yes (length b - n) (y ++ 0x0A ∷ []) h) at a)
+        by false f = let g = room-no (length b - n) (y ++ 0x0A ∷ []) (leb-false _ _ f) in absurd (q (a .1 ∙ (ap (λ (l : List ℕ). n + length l) g ∙ add-zero n)))

@@ -1,20 +1,19 @@
 -- A run in the middle: what was said so far, and that the whole run is that and the rest.
 use Prim.Native.Nat.{ℕ, _+_, _-_, _≤_, _<_}
-use mathlib.Core.Bool.{true, false}
 use mathlib.Core.List.{List, [], _∷_, _++_, append-assoc, append-nil}
 use mathlib.Core.Path.{_≡_, refl, sym, ap, _∙_}
-use borrow.Author.Tests.{lt-ltb, le-ltb, leb-true, leb-false}
-use lib.Dec.{leb}
+use borrow.Author.Tests.{lt-ltb, le-ltb}
 use lib.ListN.{length, drop, length-append}
 use native.Mathlib.Nat.{add-zero, zero-add, sub-zero}
 use native.Mathlib.Omega.{arith}
 use Rattle.tables.specs.Choice.{picked, passed}
 use Rattle.wire.specs.Bytes.{part, laid}
 use Rattle.wire.specs.Laws.{laid-none, laid-behind, length-part, length-laid}
+use Rattle.text.specs.Shown.{inRoom, Adds}
 use Rattle.desk.specs.declared.Desk.{Desk}
 use Rattle.script.specs.Lines.{lineSaid}
 use Rattle.script.specs.Run.{linesAfter, Gone, stopped, ahead, went, wentOf, Goes}
-use Rattle.script.specs.RunLaws.{Lines, lines-none}
+use Rattle.script.specs.RunLaws.{Lines, lines-none, put-none, put-some}
 
 -- some characters read and some said, and then the rest
 unfoldable pub onward : ℕ → List ℕ → Gone → Gone
@@ -90,41 +89,43 @@ module _ (k₀ : Desk) (t b : List ℕ) where
         this : linesAfter [] (drop at t) ≡ part t at e ∷ linesAfter [] (drop (e + 1) t)
         this = l ∙ picked _ _ (lt-ltb e (length t) i)
 
-        -- the answer does not fit
-        pub sofar-full : leb (length out - n) (length (lineSaid k (part t at e) .out)) ≡ true
-            → Goes (went k₀ (linesAfter [] t) (length b)) b out (record { desk = k; read = at; written = n })
-        sofar-full f =
-            let g : length out - n ≤ length (lineSaid k (part t at e) .out) = leb-true (length out - n) (length (lineSaid k (part t at e) .out)) f in
-            stops (ap (λ (ls : List (List ℕ)). went k ls (length b - n)) this ∙ full k (part t at e) (linesAfter [] (drop (e + 1) t)) (length b - n) (omega (arith, sofar-length)))
+        abbrev o : List ℕ
+        o = lineSaid k (part t at e) .out
 
-        -- the answer was added
-        pub sofar-next : (x : List ℕ) → leb (length out - n) (length (lineSaid k (part t at e) .out)) ≡ false → x ≡ laid out n (lineSaid k (part t at e) .out ++ 0x0A ∷ [])
-            → Sofar k₀ t b (lineSaid k (part t at e) .desk) (e + 1) (n + length (lineSaid k (part t at e) .out) + 1) x
-        sofar-next x f q =
-            let o = lineSaid k (part t at e) .out in
-            let d = lineSaid k (part t at e) .desk in
-            let ls = linesAfter [] (drop (e + 1) t) in
-            let g : length o < length out - n = leb-false (length out - n) (length o) f in
-            let z = sofar-length in
-            let c = s .count in
-            let v = s .room in
-            let m = length-part t at e (omega arith) in
-            let y = laid-behind b (s .said) (o ++ 0x0A ∷ []) in
-            let w : length b - n - (length o + 1) ≡ length b - (n + length o + 1) = omega arith in
-            record {
-              said = s .said ++ (o ++ 0x0A ∷ []);
-              place = omega arith;
-              room = omega arith;
-              count = simp length-append (omega arith);
-              lies = q ∙ (ap (λ (u : List ℕ). laid u n (o ++ 0x0A ∷ [])) (s .lies) ∙ (ap (λ (j : ℕ). laid (laid b 0 (s .said)) j (o ++ 0x0A ∷ [])) c ∙ y));
-              rest =
-                  s .rest
-                  ∙ (ap (onward at (s .said)) (ap (λ (ms : List (List ℕ)). went k ms (length b - n)) this ∙ fits k (part t at e) ls (length b - n) (omega arith))
-                  ∙ (onward-ahead at (length (part t at e)) (e + 1) (s .said) (o ++ 0x0A ∷ []) (went d ls (length b - n - (length o + 1))) (omega arith)
-                  ∙ ap (λ (r : ℕ). onward (e + 1) (s .said ++ (o ++ 0x0A ∷ [])) (went d ls r)) w));
-            }
+        -- its answer and LF were put behind place n where they fit, and m is the place behind them
+        module _ (x : List ℕ) (m : ℕ) (a : Adds (inRoom (length out - n) (o ++ 0x0A ∷ [])) out n x m) where
+          pub sofar-full : m ≡ n → Goes (went k₀ (linesAfter [] t) (length b)) b x (record { desk = k; read = at; written = n })
+          sofar-full q =
+              let p = put-none o out n x m a q in
+              rw (p .1)
+              (stops (ap (λ (ls : List (List ℕ)). went k ls (length b - n)) this ∙ full k (part t at e) (linesAfter [] (drop (e + 1) t)) (length b - n) (omega (arith, sofar-length, p .0))))
 
--- the same by another name of the desk and of the place
-pub sofar-as : (k₀ : Desk) (t b : List ℕ) (d k : Desk) (at m n : ℕ) (x : List ℕ) → d ≡ k → m ≡ n → Sofar k₀ t b k at n x → Sofar k₀ t b d at m x
-sofar-as k₀ t b d k at m n x e f s =
-    record { said = s .said; place = s .place; room = rw f (s .room); count = f ∙ s .count; lies = s .lies; rest = rw (e, f) (s .rest) }
+          pub sofar-next : (m ≡ n → ⊥) → Sofar k₀ t b (lineSaid k (part t at e) .desk) (e + 1) m x
+          sofar-next q =
+              let p = put-some o out n x m a q in
+              let d = lineSaid k (part t at e) .desk in
+              let ls = linesAfter [] (drop (e + 1) t) in
+              let z = sofar-length in
+              let c = s .count in
+              let v = s .room in
+              let g = length-append o (0x0A ∷ []) in
+              let u = p .1 .1 in
+              let j = length-part t at e (omega arith) in
+              let y = laid-behind b (s .said) (o ++ 0x0A ∷ []) in
+              let w : length b - n - (length o + 1) ≡ length b - m = omega (arith, p .0) in
+              record {
+                said = s .said ++ (o ++ 0x0A ∷ []);
+                place = omega arith;
+                room = omega (arith, p .0);
+                count = simp length-append (omega arith);
+                lies = p .1 .0 ∙ (ap (λ (l : List ℕ). laid l n (o ++ 0x0A ∷ [])) (s .lies) ∙ (ap (λ (i : ℕ). laid (laid b 0 (s .said)) i (o ++ 0x0A ∷ [])) c ∙ y));
+                rest =
+                    s .rest
+                    ∙ (ap (onward at (s .said)) (ap (λ (ms : List (List ℕ)). went k ms (length b - n)) this ∙ fits k (part t at e) ls (length b - n) (omega (arith, p .0)))
+                    ∙ (onward-ahead at (length (part t at e)) (e + 1) (s .said) (o ++ 0x0A ∷ []) (went d ls (length b - n - (length o + 1))) (omega arith)
+                    ∙ ap (λ (r : ℕ). onward (e + 1) (s .said ++ (o ++ 0x0A ∷ [])) (went d ls r)) w));
+              }
+
+-- the same by another name of the desk
+pub sofar-as : (k₀ : Desk) (t b : List ℕ) (d k : Desk) (at n : ℕ) (x : List ℕ) → d ≡ k → Sofar k₀ t b k at n x → Sofar k₀ t b d at n x
+sofar-as k₀ t b d k at n x e s = rw e s

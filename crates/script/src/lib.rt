@@ -3,11 +3,12 @@ mod letters;
 
 use desk::Desk;
 ghost use mathlib.Core.Path.{_≡_};
-ghost use mathlib.Core.List.{[]};
-ghost use Prim.Native.Nat.{_≤_, _<_};
+ghost use mathlib.Core.List.{[], _∷_, _++_};
+ghost use Prim.Native.Nat.{_-_, _≤_, _<_};
 ghost use lib.ListN.{length, getD};
+ghost use Rattle.text.specs.Shown.{inRoom, Adds};
 ghost use Rattle.script.specs.Run.{linesAfter, went, Goes};
-ghost use Rattle.script.specs.RunLaws.{Lines, Stepped, NoCommand};
+ghost use Rattle.script.specs.RunLaws.{Lines, NoCommand};
 ghost use Rattle.script.specs.Lines.{Tells, lentRoom, powered, lineSaid};
 
 // A desk after a line, and the number of characters of the answer.
@@ -82,103 +83,78 @@ fn line_end(text: &[u8], at: usize) -> usize
     i
 }
 
-// A desk after a line, and the place behind its answer; or as they were, where the answer does not fit.
-pub struct Step {
-    pub desk: Desk,
-    pub at: usize,
-    pub fits: bool,
-}
-
-// Answers a line that is no command from place at of out on, where the answer and its LF fit.
-fn answer_line(
-    desk: Desk,
-    line: &[u8],
-    frame: &mut [u8],
-    answer: &mut [u8],
-    at: usize,
-    out: &mut [u8],
-) -> Step
-    requires { ⌜ NoCommand (now line) × (512 ≤ length (now frame)) × (1040 ≤ length (now answer)) × (at ≤ length (now out)) ⌝ }
-    ensures { λ r. ⌜ Stepped (lineSaid desk (now (line .entry))) desk at (now (out .entry)) (now (out .exit)) r ⌝ }
+// Puts an answer and its LF from place at of out on, and answers the place behind; nothing and at where there is no room.
+fn put_answer(answer: &[u8], at: usize, out: &mut [u8]) -> usize
+    ensures { λ r. ⌜ Adds (inRoom (length (now (out .entry)) - at) (now (answer .entry) ++ 0x0A ∷ [])) (now (out .entry)) at (now (out .exit)) r ⌝ }
 {
-    let told = say(desk, line, frame, answer);
-    let len = told.len;
-    if out.len() - at <= len {
-        return Step {
-            desk,
-            at,
-            fits: false,
-        };
+    let len = answer.len();
+    if out.len() <= at {
+        return at;
     }
-    wire::lay(out, at, &answer[0..len]);
+    if out.len() - at <= len {
+        return at;
+    }
+    wire::lay(out, at, answer);
     let end = [0x0A];
     wire::lay(out, at + len, &end);
-    let next = told.desk;
-    Step {
-        desk: next,
-        at: at + len + 1,
-        fits: true,
-    }
+    at + len + 1
 }
 
 // Plays the whole lines of a text, as far as their answers fit out.
-pub fn run(desk: Desk, text: &[u8], out: &mut [u8]) -> Went
+pub fn run(mut desk: Desk, text: &[u8], out: &mut [u8]) -> Went
     ensures { λ r. ⌜ Goes (went desk (linesAfter [] (now (text .entry))) (length (now (out .entry)))) (now (out .entry)) (now (out .exit)) r ⌝ }
 {
     let mut frame = [0u8; 512];
     let mut reply = [0u8; 512];
     let mut answer = [0u8; 1040];
-    let mut card = desk.card;
-    let mut room = desk.room;
-    let bench = desk.bench;
     let mut at = 0;
     let mut n = 0;
     while at < text.len() {
         let size = text::spell(&text[at..], &mut frame);
         let behind = at + 2 * size;
         if (0 < size) & (wire::byte_at(text, behind) == b'\n') {
-            let lent = lent_room(room);
+            let lent = lent_room(desk.room);
+            let card = desk.card;
             let played = card.command(&frame[0..size], &mut reply[0..lent]);
             let len = played.len;
-            if !answers::fits(played.refusal, len, out.len() - n) {
+            let put = answers::put_line(played.refusal, &reply[0..len], n, out);
+            if put == n {
                 return Went {
-                    desk: Desk { card, room, bench },
+                    desk,
                     read: at,
                     written: n,
                 };
             }
             let next = played.card;
-            card = next;
-            n = answers::put_line(played.refusal, &reply[0..len], n, out);
+            desk.card = next;
+            n = put;
             at = behind + 1;
             continue;
         }
         let e = line_end(text, at);
         if e == text.len() {
             return Went {
-                desk: Desk { card, room, bench },
+                desk,
                 read: at,
                 written: n,
             };
         }
-        let current = Desk { card, room, bench };
-        let step = answer_line(current, &text[at..e], &mut frame, &mut answer, n, out);
-        if !step.fits {
+        let told = say(desk, &text[at..e], &mut frame, &mut answer);
+        let len = told.len;
+        let put = put_answer(&answer[0..len], n, out);
+        if put == n {
             return Went {
-                desk: Desk { card, room, bench },
+                desk,
                 read: at,
                 written: n,
             };
         }
-        let after = step.desk;
-        let next = after.card;
-        card = next;
-        room = after.room;
-        n = step.at;
+        desk = told.desk;
+        n = put;
         at = e + 1;
     }
     Went {
-        desk: Desk { card, room, bench },
+        desk,
         read: at,
         written: n,
     }

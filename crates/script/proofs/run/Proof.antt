@@ -1,14 +1,11 @@
 use Rattle.script.specs.Lines.{lentRoom, lineSaid}
-use Rattle.desk.specs.declared.Desk.{Desk}
-use Rattle.script.specs.RunLaws.{step-stopped, step-went}
-use Rattle.script.specs.Laws.{lent-most, plays-lent, reply-bytes, kept-bench}
+use Rattle.script.specs.Laws.{lent-most, plays-lent, reply-bytes, said-desk, said-fits, said-put}
 use Rattle.script.specs.Sofar.{Sofar, sofar-start, sofar-length, sofar-end, sofar-part, sofar-full, sofar-next, sofar-as}
 use Rattle.script.specs.Commands.{size-most, frame-size, command-inside, command-line, command-said, no-command}
 use Rattle.script.specs.Played.{played-full, played-next}
 use Rattle.card.specs.Events.{commanded}
 use Rattle.wire.specs.Bytes.{part}
 use borrow.Author.Needs.{needs}
-use borrow.Author.Tests.{not-true, not-false}
 use denote.Ref.{now}
 use lib.Dec.{eqb, ltb}
 use lib.ListN.{length}
@@ -21,14 +18,11 @@ use Rattle.script.proofs.run.Statement.{statement}
 use Rattle.script.proofs.run.Tie as tie
 
 abbrev Inv-loop : tie.InvT-loop
-Inv-loop text out₀ frame₀ reply₀ answer₀ card₀ room₀ bench at₀ n₀ out frame reply answer card room at n =
-    (length frame ≡ 512)
-    × (length reply ≡ 512)
-    × (length answer ≡ 1040)
-    × Sofar (record { card = card₀; room = room₀; bench = bench }) text out₀ (record { card = card; room = room; bench = bench }) at n out
+Inv-loop desk₀ text out₀ frame₀ reply₀ answer₀ at₀ n₀ desk out frame reply answer at n =
+    (length frame ≡ 512) × (length reply ≡ 512) × (length answer ≡ 1040) × Sofar desk₀ text out₀ desk at n out
 
 abbrev μ-loop : tie.MeasureT-loop
-μ-loop text out₀ frame₀ reply₀ answer₀ card₀ room₀ bench at₀ n₀ out frame reply answer card room at n = length text - at
+μ-loop desk₀ text out₀ frame₀ reply₀ answer₀ at₀ n₀ desk out frame reply answer at n = length text - at
 
 loop-holds : tie.Need-loop-holds Inv-loop μ-loop
 loop-holds c = (search needs, search needs, search needs, sofar-start _ _ _)
@@ -50,7 +44,7 @@ spell-requires c κs = tt
 
 mul-behind : tie.Need-mul-behind Inv-loop μ-loop
 mul-behind c =
-    let a = c .before .before .before .before .before .before .before .before .before .args in
+    let a = c .before .before .before .before .before .before .before .before .args in
     let v = c .before .before .before .before .before .loop in
     let t = now (a .text) in
     let w = c .before .spell in
@@ -59,12 +53,12 @@ mul-behind c =
 
 add-behind : tie.Need-add-behind Inv-loop μ-loop
 add-behind c =
-    let a = c .before .before .before .before .before .before .before .before .before .args in
+    let a = c .before .before .before .before .before .before .before .before .args in
     let v = c .before .before .before .before .before .loop in
     let t = now (a .text) in
     let w = c .before .spell in
     let h = c .before .before .before .before .loop-test .taken in
-    omega (arith, size-most t (v .at) (v .frame) _ _ (v .inv .0) h (w .ensures) .1, c .before .before .before .before .before .before .before .before .before .good)
+    omega (arith, size-most t (v .at) (v .frame) _ _ (v .inv .0) h (w .ensures) .1, c .before .before .before .before .before .before .before .before .good)
 
 byte-at-requires : tie.Need-byte-at-requires Inv-loop μ-loop
 byte-at-requires c κs = tt
@@ -81,10 +75,10 @@ part-command-start c = omega arith
 part-command-end : tie.Need-part-command-end Inv-loop μ-loop
 part-command-end c =
     let a = c .before .before .before .before .before .before .before .before .before .before .before .before .before .args in
-    let v = c .before .before .before .before .before .before .before .before .before .loop in
+    let v = c .before .before .before .before .before .before .before .before .before .before .loop in
     let t = now (a .text) in
-    let w = c .before .before .before .before .before .spell in
-    let h = c .before .before .before .before .before .before .before .before .loop-test .taken in
+    let w = c .before .before .before .before .before .before .spell in
+    let h = c .before .before .before .before .before .before .before .before .before .loop-test .taken in
     omega (arith, frame-size t (v .at) (v .frame) _ _ (v .inv .0) h (w .ensures))
 
 sub-command-2 : tie.Need-sub-command-2 Inv-loop μ-loop
@@ -95,38 +89,11 @@ part-reply-start c = omega arith
 
 part-reply-end : tie.Need-part-reply-end Inv-loop μ-loop
 part-reply-end c =
-    let a = c .before .before .before .before .before .before .before .before .before .before .before .before .before .before .args in
-    let v = c .before .before .before .before .before .before .before .before .before .before .loop in
-    let t = now (a .text) in
-    omega (arith, lent-most (v .room), c .before .before .lent-room .ensures, v .inv .1)
+    let v = c .before .before .before .before .before .before .before .before .before .before .before .loop in
+    omega (arith, lent-most (v .desk .room), c .before .before .before .lent-room .ensures, v .inv .1)
 
 command-requires : tie.Need-command-requires Inv-loop μ-loop
 command-requires c κs = tt
-
-sub-fits : tie.Need-sub-fits Inv-loop μ-loop
-sub-fits c =
-    let v = c .before .before .before .before .before .before .before .before .before .before .before .before .before .loop in
-    omega (arith, sofar-length _ _ _ _ _ _ _ (v .inv .3), v .inv .3 .room)
-
-fits-requires : tie.Need-fits-requires Inv-loop μ-loop
-fits-requires c κs = tt
-
-same-length : tie.Need-same-length Inv-loop μ-loop
-same-length c = sofar-length _ _ _ _ _ _ _ (c .before .before .before .before .before .before .before .before .before .before .before .before .before .before .before .loop .inv .3)
-
-returns : tie.Need-returns Inv-loop μ-loop
-returns c =
-    let a = c .before .before .before .before .before .before .before .before .before .before .before .before .before .before .before .before .before .before .before .args in
-    let v = c .before .before .before .before .before .before .before .before .before .before .before .before .before .before .before .loop in
-    let t = now (a .text) in
-    let w = c .before .before .before .before .before .before .before .before .before .before .before .spell in
-    let h = c .before .before .before .before .before .before .before .before .before .before .before .before .before .before .loop-test .taken in
-    let y = ap (λ (b : ℕ). ltb 0 (w .result) && eqb b 0x0A) (sym (c .before .before .before .before .before .before .before .before .before .byte-at .ensures)) ∙ c .before .before .before .before .before .before .before .before .if1 .taken in
-    let k : Desk = record { card = v .card; room = v .room; bench = a .desk .bench } in
-    let o = commanded (v .card) (part (w .last .1 .0) 0 (w .result)) (lentRoom (v .room)) in
-    let m = c .before .before .before .command in
-    let p = plays-lent (v .card) _ (v .reply) _ (v .room) _ _ (c .before .before .before .before .before .before .before .lent-room .ensures) (omega (arith, v .inv .1)) (m .kept .1 .1 .0) (m .ensures) in
-    played-full (a .desk) t (now (a .out)) k (v .at) (v .n) (v .out) (v .inv .3) _ (command-line t (v .at) (v .frame) _ _ (v .inv .0) h (w .ensures) y) (omega arith) (command-inside t (v .at) (v .frame) _ _ (v .inv .0) h (w .ensures) y) o _ _ (command-said t (v .at) (v .frame) _ _ (v .inv .0) h (w .ensures) y k) p (sym (c .before .fits2 .ensures) ∙ not-true _ (c .if2 .taken))
 
 sub-put-line : tie.Need-sub-put-line Inv-loop μ-loop
 sub-put-line c = omega arith
@@ -136,34 +103,42 @@ part-put-line-start c = omega arith
 
 part-put-line-end : tie.Need-part-put-line-end Inv-loop μ-loop
 part-put-line-end c =
-    let a = c .before .before .before .before .before .before .before .before .before .before .before .before .before .before .before .before .before .before .before .before .before .args in
-    let v = c .before .before .before .before .before .before .before .before .before .before .before .before .before .before .before .before .before .loop in
-    let t = now (a .text) in
-    let w = c .before .before .before .before .before .before .before .before .before .before .before .before .before .spell in
-    let h = c .before .before .before .before .before .before .before .before .before .before .before .before .before .before .before .before .loop-test .taken in
-    let y = ap (λ (b : ℕ). ltb 0 (w .result) && eqb b 0x0A) (sym (c .before .before .before .before .before .before .before .before .before .before .before .byte-at .ensures)) ∙ c .before .before .before .before .before .before .before .before .before .before .if1 .taken in
-    let k : Desk = record { card = v .card; room = v .room; bench = a .desk .bench } in
-    let o = commanded (v .card) (part (w .last .1 .0) 0 (w .result)) (lentRoom (v .room)) in
-    let m = c .before .before .before .before .before .command in
-    let p = plays-lent (v .card) _ (v .reply) _ (v .room) _ _ (c .before .before .before .before .before .before .before .before .before .lent-room .ensures) (omega (arith, v .inv .1)) (m .kept .1 .1 .0) (m .ensures) in
-    omega (arith, reply-bytes o _ _ p .1, v .inv .1, length-front (v .reply) (m .last .1 .1 .0) (c .before .before .before .before .before .before .before .before .before .lent-room .result - 0) (m .kept .1 .1 .0))
+    let v = c .before .before .before .before .before .before .before .before .before .before .before .before .before .before .before .loop in
+    let m = c .before .before .command in
+    let p = plays-lent (v .desk .card) _ (v .reply) _ (v .desk .room) _ _ (c .before .before .before .before .before .before .before .lent-room .ensures) (omega (arith, v .inv .1)) (m .kept .1 .1 .0) (m .ensures) in
+    omega (arith, reply-bytes _ _ _ p .1, v .inv .1, length-front (v .reply) (m .last .1 .1 .0) (c .before .before .before .before .before .before .before .lent-room .result - 0) (m .kept .1 .1 .0))
 
 put-line-requires : tie.Need-put-line-requires Inv-loop μ-loop
 put-line-requires c κs = tt
 
+same-length : tie.Need-same-length Inv-loop μ-loop
+same-length c = c .before .before .before .put-line .kept .1 .1 .1 .0 ∙ sofar-length _ _ _ _ _ _ _ (c .before .before .before .before .before .before .before .before .before .before .before .before .before .before .before .before .before .before .before .before .before .loop .inv .3)
+
+returns : tie.Need-returns Inv-loop μ-loop
+returns c =
+    let a = c .before .before .before .before .before .before .before .before .before .before .before .before .before .before .before .before .before .before .before .before .before .before .before .before .args in
+    let v = c .before .before .before .before .before .before .before .before .before .before .before .before .before .before .before .before .before .before .before .before .before .loop in
+    let t = now (a .text) in
+    let w = c .before .before .before .before .before .before .before .before .before .before .before .before .before .before .before .before .before .spell in
+    let h = c .before .before .before .before .before .before .before .before .before .before .before .before .before .before .before .before .before .before .before .before .loop-test .taken in
+    let y = ap (λ (b : ℕ). ltb 0 (w .result) && eqb b 0x0A) (sym (c .before .before .before .before .before .before .before .before .before .before .before .before .before .before .before .byte-at .ensures)) ∙ c .before .before .before .before .before .before .before .before .before .before .before .before .before .before .if1 .taken in
+    let m = c .before .before .before .before .before .before .before .before .command in
+    let p = plays-lent (v .desk .card) _ (v .reply) _ (v .desk .room) _ _ (c .before .before .before .before .before .before .before .before .before .before .before .before .before .lent-room .ensures) (omega (arith, v .inv .1)) (m .kept .1 .1 .0) (m .ensures) in
+    played-full (a .desk) t (now (a .out)) (v .desk) (v .at) (v .n) (v .out) (v .inv .3) _ (command-line t (v .at) (v .frame) _ _ (v .inv .0) h (w .ensures) y) (omega arith) (command-inside t (v .at) (v .frame) _ _ (v .inv .0) h (w .ensures) y) (commanded (v .desk .card) (part (w .last .1 .0) 0 (w .result)) (lentRoom (v .desk .room))) _ _ (command-said t (v .at) (v .frame) _ _ (v .inv .0) h (w .ensures) y (v .desk)) p _ _ (c .before .before .before .put-line .ensures) (c .if2 .taken)
+
 add-at : tie.Need-add-at Inv-loop μ-loop
 add-at c =
-    let a = c .before .before .before .before .before .before .before .before .before .before .before .before .before .before .before .before .before .before .before .before .before .before .before .before .before .before .args in
+    let a = c .before .before .before .before .before .before .before .before .before .before .before .before .before .before .before .before .before .before .before .before .before .before .before .before .before .args in
     let v = c .before .before .before .before .before .before .before .before .before .before .before .before .before .before .before .before .before .before .before .before .before .before .loop in
     let t = now (a .text) in
     let w = c .before .before .before .before .before .before .before .before .before .before .before .before .before .before .before .before .before .before .spell in
     let h = c .before .before .before .before .before .before .before .before .before .before .before .before .before .before .before .before .before .before .before .before .before .loop-test .taken in
     let y = ap (λ (b : ℕ). ltb 0 (w .result) && eqb b 0x0A) (sym (c .before .before .before .before .before .before .before .before .before .before .before .before .before .before .before .before .byte-at .ensures)) ∙ c .before .before .before .before .before .before .before .before .before .before .before .before .before .before .before .if1 .taken in
-    record { fits = omega (arith, command-inside t (v .at) (v .frame) _ _ (v .inv .0) h (w .ensures) y, c .before .before .before .before .before .before .before .before .before .before .before .before .before .before .before .before .before .before .before .before .before .before .before .before .before .before .good) }
+    record { fits = omega (arith, command-inside t (v .at) (v .frame) _ _ (v .inv .0) h (w .ensures) y, c .before .before .before .before .before .before .before .before .before .before .before .before .before .before .before .before .before .before .before .before .before .before .before .before .before .good) }
 
 loop-less : tie.Need-loop-less Inv-loop μ-loop
 loop-less c =
-    let a = c .before .before .before .before .before .before .before .before .before .before .before .before .before .before .before .before .before .before .before .before .before .before .before .before .before .before .args in
+    let a = c .before .before .before .before .before .before .before .before .before .before .before .before .before .before .before .before .before .before .before .before .before .before .before .before .before .args in
     let v = c .before .before .before .before .before .before .before .before .before .before .before .before .before .before .before .before .before .before .before .before .before .before .loop in
     let t = now (a .text) in
     let w = c .before .before .before .before .before .before .before .before .before .before .before .before .before .before .before .before .before .before .spell in
@@ -173,21 +148,18 @@ loop-less c =
 
 loop-again : tie.Need-loop-again Inv-loop μ-loop
 loop-again c =
-    let a = c .before .before .before .before .before .before .before .before .before .before .before .before .before .before .before .before .before .before .before .before .before .before .before .before .before .before .args in
+    let a = c .before .before .before .before .before .before .before .before .before .before .before .before .before .before .before .before .before .before .before .before .before .before .before .before .before .args in
     let v = c .before .before .before .before .before .before .before .before .before .before .before .before .before .before .before .before .before .before .before .before .before .before .loop in
     let t = now (a .text) in
     let w = c .before .before .before .before .before .before .before .before .before .before .before .before .before .before .before .before .before .before .spell in
     let h = c .before .before .before .before .before .before .before .before .before .before .before .before .before .before .before .before .before .before .before .before .before .loop-test .taken in
     let y = ap (λ (b : ℕ). ltb 0 (w .result) && eqb b 0x0A) (sym (c .before .before .before .before .before .before .before .before .before .before .before .before .before .before .before .before .byte-at .ensures)) ∙ c .before .before .before .before .before .before .before .before .before .before .before .before .before .before .before .if1 .taken in
-    let k : Desk = record { card = v .card; room = v .room; bench = a .desk .bench } in
-    let o = commanded (v .card) (part (w .last .1 .0) 0 (w .result)) (lentRoom (v .room)) in
-    let m = c .before .before .before .before .before .before .before .before .before .before .command in
-    let p = plays-lent (v .card) _ (v .reply) _ (v .room) _ _ (c .before .before .before .before .before .before .before .before .before .before .before .before .before .before .lent-room .ensures) (omega (arith, v .inv .1)) (m .kept .1 .1 .0) (m .ensures) in
-    let f = sym (c .before .before .before .before .before .before .before .before .fits2 .ensures) ∙ not-false _ (c .before .before .before .before .before .before .before .if2 .left) in (
+    let m = c .before .before .before .before .before .before .before .before .before .command in
+    let p = plays-lent (v .desk .card) _ (v .reply) _ (v .desk .room) _ _ (c .before .before .before .before .before .before .before .before .before .before .before .before .before .before .lent-room .ensures) (omega (arith, v .inv .1)) (m .kept .1 .1 .0) (m .ensures) in (
       w .kept .1 .0 ∙ v .inv .0,
       length-front (v .reply) (m .last .1 .1 .0) (c .before .before .before .before .before .before .before .before .before .before .before .before .before .before .lent-room .result - 0) (m .kept .1 .1 .0) ∙ v .inv .1,
       v .inv .2,
-      played-next (a .desk) t (now (a .out)) k (v .at) (v .n) (v .out) (v .inv .3) _ (command-line t (v .at) (v .frame) _ _ (v .inv .0) h (w .ensures) y) (omega arith) (command-inside t (v .at) (v .frame) _ _ (v .inv .0) h (w .ensures) y) o _ _ (command-said t (v .at) (v .frame) _ _ (v .inv .0) h (w .ensures) y k) p _ _ f (c .before .before .put-line .ensures),
+      played-next (a .desk) t (now (a .out)) (v .desk) (v .at) (v .n) (v .out) (v .inv .3) _ (command-line t (v .at) (v .frame) _ _ (v .inv .0) h (w .ensures) y) (omega arith) (command-inside t (v .at) (v .frame) _ _ (v .inv .0) h (w .ensures) y) (commanded (v .desk .card) (part (w .last .1 .0) 0 (w .result)) (lentRoom (v .desk .room))) _ _ (command-said t (v .at) (v .frame) _ _ (v .inv .0) h (w .ensures) y (v .desk)) p _ _ (c .before .before .before .before .put-line .ensures) (c .before .if2 .left),
     )
 
 line-end-requires : tie.Need-line-end-requires Inv-loop μ-loop
@@ -199,82 +171,92 @@ same-length-2 c = sofar-length _ _ _ _ _ _ _ (c .before .before .before .before 
 returns-2 : tie.Need-returns-2 Inv-loop μ-loop
 returns-2 c = sofar-part _ _ _ _ _ _ _ (c .before .before .before .before .before .before .before .before .before .loop .inv .3) _ (c .before .line-end .ensures .2) (c .if3 .taken)
 
-sub-answer-line : tie.Need-sub-answer-line Inv-loop μ-loop
-sub-answer-line c = omega (arith, c .before .line-end .ensures .0, c .before .line-end .ensures .1)
+sub-say : tie.Need-sub-say Inv-loop μ-loop
+sub-say c = omega (arith, c .before .line-end .ensures .0, c .before .line-end .ensures .1)
 
-part-answer-line-start : tie.Need-part-answer-line-start Inv-loop μ-loop
-part-answer-line-start c = omega (arith, c .before .line-end .ensures .0, c .before .line-end .ensures .1)
+part-say-start : tie.Need-part-say-start Inv-loop μ-loop
+part-say-start c = omega (arith, c .before .line-end .ensures .0, c .before .line-end .ensures .1)
 
-part-answer-line-end : tie.Need-part-answer-line-end Inv-loop μ-loop
-part-answer-line-end c = omega (arith, c .before .line-end .ensures .0, c .before .line-end .ensures .1)
+part-say-end : tie.Need-part-say-end Inv-loop μ-loop
+part-say-end c = omega (arith, c .before .line-end .ensures .0, c .before .line-end .ensures .1)
 
-slice-aggregate-answer-line : tie.Need-slice-aggregate-answer-line Inv-loop μ-loop
-slice-aggregate-answer-line c = search needs
+slice-aggregate-say : tie.Need-slice-aggregate-say Inv-loop μ-loop
+slice-aggregate-say c = search needs
 
-slice-aggregate-answer-line-2 : tie.Need-slice-aggregate-answer-line-2 Inv-loop μ-loop
-slice-aggregate-answer-line-2 c = search needs
+slice-aggregate-say-2 : tie.Need-slice-aggregate-say-2 Inv-loop μ-loop
+slice-aggregate-say-2 c = search needs
 
-answer-line-requires : tie.Need-answer-line-requires Inv-loop μ-loop
-answer-line-requires c κs =
-    let a = c .before .before .before .before .before .before .before .before .before .before .before .before .before .before .before .before .before .args in
-    let v = c .before .before .before .before .before .before .before .before .before .before .before .before .before .loop in
+say-requires : tie.Need-say-requires Inv-loop μ-loop
+say-requires c κs =
+    let a = c .before .before .before .before .before .before .before .before .before .before .before .before .before .before .before .args in
+    let v = c .before .before .before .before .before .before .before .before .before .before .before .before .loop in
     let t = now (a .text) in
-    let w = c .before .before .before .before .before .before .before .before .before .spell in
-    let h = c .before .before .before .before .before .before .before .before .before .before .before .before .loop-test .taken in
-    let y = ap (λ (b : ℕ). ltb 0 (w .result) && eqb b 0x0A) (sym (c .before .before .before .before .before .before .before .byte-at .ensures)) ∙ c .before .before .before .before .before .before .if1 .left in
-    let l = c .before .before .before .before .before .line-end .ensures in
-    let i : c .before .before .before .before .before .line-end .result < length t = omega (arith, c .before .before .before .before .if3 .left, l .1) in
-    (no-command t (v .at) (v .frame) _ _ (v .inv .0) h (w .ensures) y _ (l .0) i (l .3 i), omega (arith, w .kept .1 .0, v .inv .0), omega (arith, v .inv .2), rw (sofar-length _ _ _ _ _ _ _ (v .inv .3)) (v .inv .3 .room))
+    let w = c .before .before .before .before .before .before .before .before .spell in
+    let h = c .before .before .before .before .before .before .before .before .before .before .before .loop-test .taken in
+    let y = ap (λ (b : ℕ). ltb 0 (w .result) && eqb b 0x0A) (sym (c .before .before .before .before .before .before .byte-at .ensures)) ∙ c .before .before .before .before .before .if1 .left in
+    let l = c .before .before .before .before .line-end .ensures in
+    let i : c .before .before .before .before .line-end .result < length t = omega (arith, c .before .before .before .if3 .left, l .1) in
+    (no-command t (v .at) (v .frame) _ _ (v .inv .0) h (w .ensures) y _ (l .0) i (l .3 i), omega (arith, w .kept .1 .0, v .inv .0), omega (arith, v .inv .2))
+
+sub-put-answer : tie.Need-sub-put-answer Inv-loop μ-loop
+sub-put-answer c = omega arith
+
+part-put-answer-start : tie.Need-part-put-answer-start Inv-loop μ-loop
+part-put-answer-start c = omega arith
+
+part-put-answer-end : tie.Need-part-put-answer-end Inv-loop μ-loop
+part-put-answer-end c =
+    let v = c .before .before .before .before .before .before .before .before .before .before .before .before .before .before .before .before .loop in
+    omega (arith, said-fits _ (v .answer) _ _ (c .before .before .before .say .ensures) (c .before .before .before .say .kept .1 .1 .1 .0), c .before .before .before .say .kept .1 .1 .1 .0)
+
+put-answer-requires : tie.Need-put-answer-requires Inv-loop μ-loop
+put-answer-requires c κs = tt
 
 same-length-3 : tie.Need-same-length-3 Inv-loop μ-loop
-same-length-3 c = c .before .before .before .before .before .before .answer-line .kept .1 .1 .1 .1 .1 .0 ∙ sofar-length _ _ _ _ _ _ _ (c .before .before .before .before .before .before .before .before .before .before .before .before .before .before .before .before .before .before .before .before .loop .inv .3)
+same-length-3 c = c .before .before .before .put-answer .kept .1 .1 .0 ∙ sofar-length _ _ _ _ _ _ _ (c .before .before .before .before .before .before .before .before .before .before .before .before .before .before .before .before .before .before .before .before .before .before .loop .inv .3)
 
 returns-3 : tie.Need-returns-3 Inv-loop μ-loop
 returns-3 c =
-    let a = c .before .before .before .before .before .before .before .before .before .before .before .before .before .before .before .before .before .before .before .before .before .before .before .before .args in
-    let v = c .before .before .before .before .before .before .before .before .before .before .before .before .before .before .before .before .before .before .before .before .loop in
+    let a = c .before .before .before .before .before .before .before .before .before .before .before .before .before .before .before .before .before .before .before .before .before .before .before .before .before .args in
+    let v = c .before .before .before .before .before .before .before .before .before .before .before .before .before .before .before .before .before .before .before .before .before .before .loop in
     let t = now (a .text) in
-    let k : Desk = record { card = v .card; room = v .room; bench = a .desk .bench } in
-    let e = c .before .before .before .before .before .before .before .before .before .before .before .before .line-end .result in
-    let l = c .before .before .before .before .before .before .before .before .before .before .before .before .line-end .ensures in
-    let x = step-stopped (lineSaid k (part t (v .at) e)) k (v .n) (v .out) _ _ (c .before .before .before .before .before .before .answer-line .ensures) (not-true _ (c .if4 .taken)) in
-    let g = sofar-full (a .desk) t (now (a .out)) k (v .at) (v .n) (v .out) (v .inv .3) e (l .2) (l .0) (omega (arith, c .before .before .before .before .before .before .before .before .before .before .before .if3 .left, l .1)) (x .0) in
-    (g .0, x .1 ∙ g .1)
+    let l = c .before .before .before .before .before .before .before .before .before .before .before .before .before .before .line-end .ensures in
+    let i : c .before .before .before .before .before .before .before .before .before .before .before .before .before .before .line-end .result < length t = omega (arith, c .before .before .before .before .before .before .before .before .before .before .before .before .before .if3 .left, l .1) in
+    let g = c .before .before .before .before .before .before .before .before .before .say in
+    let x = said-put (lineSaid (v .desk) (part t (v .at) (c .before .before .before .before .before .before .before .before .before .before .before .before .before .before .line-end .result))) (v .answer) _ _ (g .ensures) (v .out) (v .n) _ _ (c .before .before .before .put-answer .ensures) in
+    sofar-full (a .desk) t (now (a .out)) (v .desk) (v .at) (v .n) (v .out) (v .inv .3) _ (l .2) (l .0) i _ _ x (c .if4 .taken)
 
 add-at-2 : tie.Need-add-at-2 Inv-loop μ-loop
 add-at-2 c =
     let a = c .before .before .before .before .before .before .before .before .before .before .before .before .before .before .before .before .before .before .before .before .before .before .before .before .before .before .args in
-    let v = c .before .before .before .before .before .before .before .before .before .before .before .before .before .before .before .before .before .before .before .before .before .before .loop in
     let t = now (a .text) in
-    let k : Desk = record { card = v .card; room = v .room; bench = a .desk .bench } in
-    let e = c .before .before .before .before .before .before .before .before .before .before .before .before .before .before .line-end .result in
-    let l = c .before .before .before .before .before .before .before .before .before .before .before .before .before .before .line-end .ensures in
-    record { fits = omega (arith, c .before .before .before .before .before .before .before .before .before .before .before .before .before .if3 .left, l .1, c .before .before .before .before .before .before .before .before .before .before .before .before .before .before .before .before .before .before .before .before .before .before .before .before .before .before .good) }
+    let l = c .before .before .before .before .before .before .before .before .before .before .before .before .before .before .before .line-end .ensures in
+    let i : c .before .before .before .before .before .before .before .before .before .before .before .before .before .before .before .line-end .result < length t = omega (arith, c .before .before .before .before .before .before .before .before .before .before .before .before .before .before .if3 .left, l .1) in
+    record { fits = omega (arith, c .before .before .before .before .before .before .before .before .before .before .before .before .before .before .before .before .before .before .before .before .before .before .before .before .before .before .good) }
 
 loop-less-2 : tie.Need-loop-less-2 Inv-loop μ-loop
 loop-less-2 c =
     let a = c .before .before .before .before .before .before .before .before .before .before .before .before .before .before .before .before .before .before .before .before .before .before .before .before .before .before .args in
-    let v = c .before .before .before .before .before .before .before .before .before .before .before .before .before .before .before .before .before .before .before .before .before .before .loop in
     let t = now (a .text) in
-    let k : Desk = record { card = v .card; room = v .room; bench = a .desk .bench } in
-    let e = c .before .before .before .before .before .before .before .before .before .before .before .before .before .before .line-end .result in
-    let l = c .before .before .before .before .before .before .before .before .before .before .before .before .before .before .line-end .ensures in
-    omega (arith, c .before .before .before .before .before .before .before .before .before .before .before .before .before .if3 .left, l .0, l .1)
+    let l = c .before .before .before .before .before .before .before .before .before .before .before .before .before .before .before .line-end .ensures in
+    let i : c .before .before .before .before .before .before .before .before .before .before .before .before .before .before .before .line-end .result < length t = omega (arith, c .before .before .before .before .before .before .before .before .before .before .before .before .before .before .if3 .left, l .1) in
+    omega arith
 
 loop-again-2 : tie.Need-loop-again-2 Inv-loop μ-loop
 loop-again-2 c =
     let a = c .before .before .before .before .before .before .before .before .before .before .before .before .before .before .before .before .before .before .before .before .before .before .before .before .before .before .args in
-    let v = c .before .before .before .before .before .before .before .before .before .before .before .before .before .before .before .before .before .before .before .before .before .before .loop in
+    let v = c .before .before .before .before .before .before .before .before .before .before .before .before .before .before .before .before .before .before .before .before .before .before .before .loop in
     let t = now (a .text) in
-    let w = c .before .before .before .before .before .before .before .before .before .before .before .before .before .before .before .before .before .before .spell in
-    let h = c .before .before .before .before .before .before .before .before .before .before .before .before .before .before .before .before .before .before .before .before .before .loop-test .taken in
-    let k : Desk = record { card = v .card; room = v .room; bench = a .desk .bench } in
-    let e = c .before .before .before .before .before .before .before .before .before .before .before .before .before .before .line-end .result in
-    let l = c .before .before .before .before .before .before .before .before .before .before .before .before .before .before .line-end .ensures in
-    let q = c .before .before .before .before .before .before .before .before .answer-line .kept in
-    let x = step-went (lineSaid k (part t (v .at) e)) k (v .n) (v .out) _ _ (c .before .before .before .before .before .before .before .before .answer-line .ensures) (not-false _ (c .before .before .if4 .left)) in
-    let n = sofar-next (a .desk) t (now (a .out)) k (v .at) (v .n) (v .out) (v .inv .3) e (l .2) (l .0) (omega (arith, c .before .before .before .before .before .before .before .before .before .before .before .before .before .if3 .left, l .1)) _ (x .0) (x .1) in
-    (q .1 .1 .0 ∙ (w .kept .1 .0 ∙ v .inv .0), v .inv .1, q .1 .1 .1 .0 ∙ v .inv .2, sofar-as _ _ _ _ _ _ _ _ _ (kept-bench k (part t (v .at) e) _ (x .2)) (x .3) n)
+    let w = c .before .before .before .before .before .before .before .before .before .before .before .before .before .before .before .before .before .before .before .spell in
+    let l = c .before .before .before .before .before .before .before .before .before .before .before .before .before .before .before .line-end .ensures in
+    let i : c .before .before .before .before .before .before .before .before .before .before .before .before .before .before .before .line-end .result < length t = omega (arith, c .before .before .before .before .before .before .before .before .before .before .before .before .before .before .if3 .left, l .1) in
+    let g = c .before .before .before .before .before .before .before .before .before .before .say in
+    let x = said-put (lineSaid (v .desk) (part t (v .at) (c .before .before .before .before .before .before .before .before .before .before .before .before .before .before .before .line-end .result))) (v .answer) _ _ (g .ensures) (v .out) (v .n) _ _ (c .before .before .before .before .put-answer .ensures) in (
+      g .kept .1 .1 .0 ∙ (w .kept .1 .0 ∙ v .inv .0),
+      v .inv .1,
+      g .kept .1 .1 .1 .0 ∙ v .inv .2,
+      sofar-as _ _ _ _ _ _ _ _ (said-desk _ _ (g .ensures .0)) (sofar-next (a .desk) t (now (a .out)) (v .desk) (v .at) (v .n) (v .out) (v .inv .3) _ (l .2) (l .0) i _ _ x (c .before .if4 .left)),
+    )
 
 same-length-4 : tie.Need-same-length-4 Inv-loop μ-loop
 same-length-4 c = sofar-length _ _ _ _ _ _ _ (c .before .loop .inv .3)
@@ -305,26 +287,28 @@ run-spec =
     part-reply-start
     part-reply-end
     command-requires
-    sub-fits
-    fits-requires
-    same-length
-    returns
     sub-put-line
     part-put-line-start
     part-put-line-end
     put-line-requires
+    same-length
+    returns
     add-at
     loop-less
     loop-again
     line-end-requires
     same-length-2
     returns-2
-    sub-answer-line
-    part-answer-line-start
-    part-answer-line-end
-    slice-aggregate-answer-line
-    slice-aggregate-answer-line-2
-    answer-line-requires
+    sub-say
+    part-say-start
+    part-say-end
+    slice-aggregate-say
+    slice-aggregate-say-2
+    say-requires
+    sub-put-answer
+    part-put-answer-start
+    part-put-answer-end
+    put-answer-requires
     same-length-3
     returns-3
     add-at-2
