@@ -1,6 +1,6 @@
 -- Laws of answers laid into buffers.
 use Prim.Native.Nat.{ℕ, _+_, _-_, _≤_}
-use mathlib.Core.List.{List, [], _∷_, _++_}
+use mathlib.Core.List.{List, [], _++_}
 use mathlib.Core.Bool.{Bool, true, false, _&&_}
 use mathlib.Core.Path.{_≡_, refl, sym, ap, subst, _∙_}
 use lib.ListN.{length, take, drop}
@@ -8,32 +8,21 @@ use lib.Seq.{take-all, take-append-le}
 use borrow.Author.Tests.{ltb-false}
 use lib.Dec.{eqb, ltb}
 use native.Mathlib.Nat.{sub-zero}
-use Rattle.tables.specs.Choice.{pick, pick-both, pick-cases, and-right}
+use Rattle.tables.specs.Choice.{pick, pick-cases, and-right}
 use native.Mathlib.Omega.{arith}
 use Rattle.wire.specs.Bytes.{part, laid, Shows}
-use Rattle.wire.specs.Laws.{length-part, length-laid, shows-as}
+use Rattle.wire.specs.Laws.{length-part, length-laid}
 use Rattle.text.specs.Hex.{isHex, spelt}
 use Rattle.text.specs.Hex.{leading}
 use Rattle.text.specs.Adds.{front-laid, front-fits}
-use Rattle.text.specs.Laws.{leading-most, leading-all, room-yes}
-use Rattle.text.specs.Shown.{inRoom, Adds}
-use Rattle.answers.specs.Answers.{numbered, refusalText}
-use Rattle.answers.specs.Laws.{length-numbered, length-refusal}
+use Rattle.text.specs.Laws.{leading-most, leading-all}
 use Rattle.card.specs.declared.Card.{Card}
 use Rattle.card.specs.declared.Reply.{Reply}
 use Rattle.card.specs.Outcome.{Outcome, replyOf, Answered}
-use Rattle.card.specs.Events.{commanded, poweredUp}
+use Rattle.card.specs.Events.{commanded}
 use Rattle.desk.specs.declared.Desk.{Desk}
 use Rattle.script.specs.declared.Told.{Told}
-use Rattle.script.specs.Lines.{Said, toldOf, Plays, Tells, withCard, lentRoom, unread, replied, counted, powered, lent, bookKept, letteredBy, lettered, lineSaid}
-
--- a desk and a text make an answer
-pub tells : (s : Said) (k : Desk) (b after : List ℕ) (n : ℕ) → k ≡ s .desk → Shows (s .out) b after n → Tells s b after (record { desk = k; len = n })
-unfolding toldOf
-tells s k b after n e h = (cc, h .0)
-
-pub tells-as : (s t : Said) (b after : List ℕ) (r : Told) → s ≡ t → Tells s b after r → Tells t b after r
-tells-as s t b after r e h = (cc, cc)
+use Rattle.script.specs.Lines.{Said, saidOf, Plays, lentRoom, letteredBy, lettered}
 
 -- ---- a reply read back from the part of the buffer that was lent
 
@@ -94,51 +83,16 @@ lettered-leading k letter rest = by (isHex rest) refl
     by true e = unfold pick in ap (letteredBy k letter (length rest) true) (leading-all rest e)
     by false e = unspelt k letter (length rest) (leading rest) (pick false (spelt rest) [])
 
--- what a told answer says of its parts
-pub said-size : (s : Said) (r : Told) → r ≡ toldOf s → r .len ≡ length (s .out)
-unfolding toldOf
-said-size s r e = ap (λ (x : Told). x .len) e
+-- ---- a text read back from the buffer that it was laid into
 
-pub said-desk : (s : Said) (r : Told) → r ≡ toldOf s → r .desk ≡ s .desk
-unfolding toldOf
-said-desk s r e = ap (λ (x : Told). x .desk) e
+module _ (x b after : List ℕ) (n : ℕ) (s : Shows x b after n) where
+  pub text-fits : length after ≡ length b → n ≤ length b
+  text-fits l = rw (s .1) (front-fits b x (ap length (sym (s .0)) ∙ l))
 
--- it fits the buffer that it was laid into
-pub said-fits : (s : Said) (b after : List ℕ) (r : Told) → Tells s b after r → length after ≡ length b → r .len ≤ length b
-said-fits s b after r h l = rw (said-size s r (h .0)) (front-fits b (s .out) (ap length (sym (h .1)) ∙ l))
+  pub text-there : part after 0 n ≡ x
+  text-there = rw (sub-zero n, s .0, s .1) (front-laid b x)
 
--- and was put behind place n of out from there, with its LF
-pub said-put : (s : Said) (b after : List ℕ) (r : Told) → Tells s b after r → (out : List ℕ) (n : ℕ) (x : List ℕ) (m : ℕ)
-    → Adds (inRoom (length out - n) (part after 0 (r .len) ++ 0x0A ∷ [])) out n x m → Adds (inRoom (length out - n) (s .out ++ 0x0A ∷ [])) out n x m
-said-put s b after r h out n x m a =
-    let e : part after 0 (r .len) ≡ s .out = rw (sub-zero (r .len), said-size s r (h .0), h .1) (front-laid b (s .out)) in
-    rw e at a
-
--- ---- answers of the events
-
--- a text that fits the buffer was shown in it
-pub tells-room : (s : Said) (k : Desk) (x b after : List ℕ) (n : ℕ) → k ≡ s .desk → x ≡ s .out → length x ≤ length b → Shows (inRoom (length b) x) b after n
-    → Tells s b after (record { desk = k; len = n })
-tells-room s k x b after n e f h w = tells s k b after n e (shows-as _ _ b after n (room-yes (length b) x h ∙ f) w)
-
-module _ (k : Desk) (o : Outcome) (r : Reply) (e : r ≡ replyOf o) (b after : List ℕ) (n : ℕ) (h : 1040 ≤ length b) where
-  next : record { card = r .card; room = k .room; bench = k .bench } ≡ withCard k (o .card)
-  unfolding withCard replyOf
-  next = ap (λ (x : Reply). record { card = x .card; room = k .room; bench = k .bench }) e
-
-  number : r .refusal ≡ o .refusal
-  unfolding replyOf
-  number = ap (λ (x : Reply). x .refusal) e
-
-  pub tells-counted : Shows (inRoom (length b) (numbered (r .refusal))) b after n → Tells (counted k o) b after (record { desk = record { card = r .card; room = k .room; bench = k .bench }; len = n })
-  unfolding counted
-  tells-counted w =
-      let l = length-numbered (r .refusal) in
-      tells-room (counted k o) _ (numbered (r .refusal)) b after n next (ap numbered number) (omega arith) w
-
-pub tells-powered : (k : Desk) (r : Reply) (b after : List ℕ) (n : ℕ) → r ≡ replyOf (poweredUp (k .card)) → 1040 ≤ length b → Shows (inRoom (length b) (refusalText (r .refusal))) b after n
-    → Tells (powered k) b after (record { desk = record { card = r .card; room = k .room; bench = k .bench }; len = n })
-unfolding powered
-tells-powered k r b after n e h w =
-    let l = length-refusal (r .refusal) in
-    tells-room (powered k) _ (refusalText (r .refusal)) b after n (next k (poweredUp (k .card)) r e b after n h) (ap refusalText (number k (poweredUp (k .card)) r e b after n h)) (omega arith) w
+-- the desk of what was told
+pub told-desk : (r : Told) {s : Said} → saidOf r ≡ s → r .desk ≡ s .desk
+unfolding saidOf
+told-desk r e = ap (λ (x : Said). x .desk) e

@@ -6,7 +6,7 @@ use mathlib.Core.Path.{_≡_}
 use lib.Dec.{eqb, ltb}
 use lib.ListN.{length, getD, take}
 use Rattle.tables.specs.Choice.{pick}
-use Rattle.wire.specs.Bytes.{part, laid}
+use Rattle.wire.specs.Bytes.{part}
 use Rattle.access.specs.declared.Session.the-variants.{Nobody, Key}
 use Rattle.card.specs.declared.Card.{Card}
 use Rattle.card.specs.declared.Reply.{Reply}
@@ -17,6 +17,8 @@ use Rattle.answers.specs.Answers.{numbered, refusalText, replyText}
 use Rattle.books.specs.Books.{booksText}
 use Rattle.orders.specs.Order.{settingsIn, valueIn}
 use Rattle.desk.specs.declared.Desk.{Desk}
+use Rattle.script.specs.declared.Answer.{Answer}
+use Rattle.script.specs.declared.Answer.the-variants.{Unread, Number, Refusal, Books}
 use Rattle.script.specs.declared.Told.{Told}
 
 -- a desk after a line, and the characters of the answer
@@ -24,12 +26,16 @@ pub record Said : Type 0 where
   pub desk : Desk
   pub out : List ℕ
 
--- the answer's characters lie at the front of a buffer, and r has the desk and their number
-unfoldable pub toldOf : Said → Told
-toldOf s = record { desk = s .desk; len = length (s .out) }
+-- the characters of an answer; the books are those of the card after the line
+unfoldable pub textOf : Answer → Card → List ℕ
+textOf Unread c = 0x3F ∷ []
+textOf (Number n) c = numbered n
+textOf (Refusal n) c = refusalText n
+textOf Books c = booksText (c .purse) (c .log) (c .session)
 
-abbrev pub Tells : Said → List ℕ → List ℕ → Told → Type 0
-Tells s before after r = (r ≡ toldOf s) × (after ≡ laid before 0 (s .out))
+-- what the code tells of a line
+unfoldable pub saidOf : Told → Said
+saidOf r = record { desk = r .desk; out = textOf (r .answer) (r .desk .card) }
 
 -- the reply r is that of the outcome o, and its bytes lie at the front of a buffer
 abbrev pub Plays : Outcome → List ℕ → Reply → Type 0

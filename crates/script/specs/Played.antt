@@ -1,17 +1,11 @@
 -- Laws of a run at a command's line: its answer does not fit, or was added.
 use Prim.Native.Nat.{ℕ, _+_, _-_, _≤_, _<_}
-use mathlib.Core.Bool.{true, false}
 use mathlib.Core.List.{List, [], _∷_, _++_}
 use mathlib.Core.Path.{_≡_, refl, sym, ap, _∙_}
-use borrow.Author.Tests.{le-leb, lt-leb, ltb-true, ltb-false}
-use lib.Dec.{ltb}
 use lib.ListN.{length}
-use native.Mathlib.Omega.{arith}
-use Rattle.wire.specs.Bytes.{part, laid}
+use Rattle.wire.specs.Bytes.{part}
 use Rattle.text.specs.Shown.{inRoom, Adds}
-use Rattle.text.specs.Laws.{room-yes}
-use Rattle.answers.specs.Answers.{replyText, replyLine, replySize}
-use Rattle.answers.specs.Laws.{length-reply, length-line}
+use Rattle.answers.specs.Answers.{replyText, replyLine}
 use Rattle.card.specs.declared.Reply.{Reply}
 use Rattle.card.specs.Outcome.{Outcome, replyOf}
 use Rattle.desk.specs.declared.Desk.{Desk}

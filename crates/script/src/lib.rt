@@ -1,23 +1,33 @@
 // Scripts: lines of text that play a card, each answered by a line.
 mod letters;
 
+use card::Card;
 use desk::Desk;
 ghost use mathlib.Core.Path.{_≡_};
 ghost use mathlib.Core.List.{[], _∷_, _++_};
 ghost use Prim.Native.Nat.{_-_, _≤_, _<_};
 ghost use lib.ListN.{length, getD};
+ghost use Rattle.wire.specs.Bytes.{Shows};
 ghost use Rattle.text.specs.Shown.{inRoom, Adds};
 ghost use Rattle.script.specs.Run.{linesAfter, went, Goes};
 ghost use Rattle.script.specs.RunLaws.{Lines, NoCommand};
-ghost use Rattle.script.specs.Lines.{Tells, lentRoom, powered, lineSaid};
+ghost use Rattle.script.specs.Lines.{textOf, saidOf, lentRoom, powered, lineSaid};
 
-// A desk after a line, and the number of characters of the answer.
-pub struct Told {
-    pub desk: Desk,
-    pub len: usize,
+// The answer to a line that is no command: `?`, `!` and a number, the same but nothing for 0, the books.
+pub enum Answer {
+    Unread,
+    Number(u8),
+    Refusal(u8),
+    Books,
 }
 
-// The largest reply buffer, and the buffers that one line needs.
+// A desk after such a line, and its answer.
+pub struct Told {
+    pub desk: Desk,
+    pub answer: Answer,
+}
+
+// The largest reply buffer.
 pub const MOST_ROOM: usize = 0x200;
 
 // The room lent to a command, at most MOST_ROOM.
@@ -31,34 +41,76 @@ fn lent_room(room: usize) -> usize
 }
 
 // An empty line: a power-up.
-fn say_power(mut desk: Desk, answer: &mut [u8]) -> Told
-    requires { ⌜ 1040 ≤ length (now answer) ⌝ }
-    ensures { λ r. ⌜ Tells (powered desk) (now (answer .entry)) (now (answer .exit)) r ⌝ }
+fn power_up(mut desk: Desk) -> Told
+    ensures { λ r. ⌜ saidOf r ≡ powered desk ⌝ }
 {
     let card = desk.card;
     let reply = card.power_up();
-    let len = answers::put_number_but_0(reply.refusal, answer);
     let next = reply.card;
     desk.card = next;
-    Told { desk, len }
+    Told {
+        desk,
+        answer: Answer::Refusal(reply.refusal),
+    }
 }
 
-// The answer to a line that is no command, without its end.
-fn say(desk: Desk, line: &[u8], frame: &mut [u8], answer: &mut [u8]) -> Told
-    requires { ⌜ NoCommand (now line) × (512 ≤ length (now frame)) × (1040 ≤ length (now answer)) ⌝ }
-    ensures { λ r. ⌜ Tells (lineSaid desk (now (line .entry))) (now (answer .entry)) (now (answer .exit)) r ⌝ }
+// What a line that is no command does, and its answer.
+fn say(desk: Desk, line: &[u8], bytes: &mut [u8]) -> Told
+    requires { ⌜ NoCommand (now line) × (512 ≤ length (now bytes)) ⌝ }
+    ensures { λ r. ⌜ saidOf r ≡ lineSaid desk (now (line .entry)) ⌝ }
 {
     let n = line.len();
     if 1024 < n {
-        return letters::say_unread(desk, answer);
+        return Told {
+            desk,
+            answer: Answer::Unread,
+        };
     }
     if n == 0 {
-        return say_power(desk, answer);
+        return power_up(desk);
     }
     if desk.bench {
-        return letters::say_lettered(desk, wire::byte_at(line, 0), &line[1..], frame, answer);
+        return letters::say_lettered(desk, wire::byte_at(line, 0), &line[1..], bytes);
     }
-    letters::say_unread(desk, answer)
+    Told {
+        desk,
+        answer: Answer::Unread,
+    }
+}
+
+// Lays an answer over the front of text, and answers the number of its characters.
+fn put_text(answer: Answer, card: Card, text: &mut [u8]) -> usize
+    requires { ⌜ 96 ≤ length (now text) ⌝ }
+    ensures { λ r. ⌜ Shows (textOf answer card) (now (text .entry)) (now (text .exit)) r ⌝ }
+{
+    match answer {
+        Answer::Unread => {
+            let one = [0x3F];
+            wire::lay(text, 0, &one);
+            return 1;
+        }
+        Answer::Number(n) => {
+            return answers::put_number(n, text);
+        }
+        Answer::Refusal(n) => {
+            return answers::put_number_but_0(n, text);
+        }
+        Answer::Books => {
+            let session = card.session;
+            return books::put_books(card.purse, card.log, session, text);
+        }
+    }
+}
+
+// Puts the answer and its LF from place at of out on, and answers the place behind; nothing and at where there is no room.
+fn put_told(told: Told, at: usize, out: &mut [u8]) -> usize
+    ensures { λ r. ⌜ Adds (inRoom (length (now (out .entry)) - at) (saidOf told .out ++ 0x0A ∷ [])) (now (out .entry)) at (now (out .exit)) r ⌝ }
+{
+    let mut text = [0u8; books::ROOM];
+    let answer = told.answer;
+    let desk = told.desk;
+    let len = put_text(answer, desk.card, &mut text);
+    put_answer(&text[0..len], at, out)
 }
 
 // How far a script was played: the desk, the characters read, and the characters written.
@@ -106,7 +158,6 @@ pub fn run(mut desk: Desk, text: &[u8], out: &mut [u8]) -> Went
 {
     let mut frame = [0u8; 512];
     let mut reply = [0u8; 512];
-    let mut answer = [0u8; 1040];
     let mut at = 0;
     let mut n = 0;
     while at < text.len() {
@@ -139,9 +190,8 @@ pub fn run(mut desk: Desk, text: &[u8], out: &mut [u8]) -> Went
                 written: n,
             };
         }
-        let told = say(desk, &text[at..e], &mut frame, &mut answer);
-        let len = told.len;
-        let put = put_answer(&answer[0..len], n, out);
+        let told = say(desk, &text[at..e], &mut frame);
+        let put = put_told(told, n, out);
         if put == n {
             return Went {
                 desk,

@@ -1,5 +1,5 @@
-use Rattle.script.specs.Lines.{lentRoom, lineSaid}
-use Rattle.script.specs.Laws.{lent-most, plays-lent, reply-bytes, said-desk, said-fits, said-put}
+use Rattle.script.specs.Lines.{lentRoom}
+use Rattle.script.specs.Laws.{lent-most, plays-lent, reply-bytes, told-desk}
 use Rattle.script.specs.Sofar.{Sofar, sofar-start, sofar-length, sofar-end, sofar-part, sofar-full, sofar-next, sofar-as}
 use Rattle.script.specs.Commands.{size-most, frame-size, command-inside, command-line, command-said, no-command}
 use Rattle.script.specs.Played.{played-full, played-next}
@@ -18,14 +18,14 @@ use Rattle.script.proofs.run.Statement.{statement}
 use Rattle.script.proofs.run.Tie as tie
 
 abbrev Inv-loop : tie.InvT-loop
-Inv-loop desk₀ text out₀ frame₀ reply₀ answer₀ at₀ n₀ desk out frame reply answer at n =
-    (length frame ≡ 512) × (length reply ≡ 512) × (length answer ≡ 1040) × Sofar desk₀ text out₀ desk at n out
+Inv-loop desk₀ text out₀ frame₀ reply₀ at₀ n₀ desk out frame reply at n =
+    (length frame ≡ 512) × (length reply ≡ 512) × Sofar desk₀ text out₀ desk at n out
 
 abbrev μ-loop : tie.MeasureT-loop
-μ-loop desk₀ text out₀ frame₀ reply₀ answer₀ at₀ n₀ desk out frame reply answer at n = length text - at
+μ-loop desk₀ text out₀ frame₀ reply₀ at₀ n₀ desk out frame reply at n = length text - at
 
 loop-holds : tie.Need-loop-holds Inv-loop μ-loop
-loop-holds c = (search needs, search needs, search needs, sofar-start _ _ _)
+loop-holds c = (search needs, search needs, sofar-start _ _ _)
 
 sub-spell : tie.Need-sub-spell Inv-loop μ-loop
 sub-spell c = omega arith
@@ -112,7 +112,7 @@ put-line-requires : tie.Need-put-line-requires Inv-loop μ-loop
 put-line-requires c κs = tt
 
 same-length : tie.Need-same-length Inv-loop μ-loop
-same-length c = c .before .before .before .put-line .kept .1 .1 .1 .0 ∙ sofar-length _ _ _ _ _ _ _ (c .before .before .before .before .before .before .before .before .before .before .before .before .before .before .before .before .before .before .before .before .before .loop .inv .3)
+same-length c = c .before .before .before .put-line .kept .1 .1 .1 .0 ∙ sofar-length _ _ _ _ _ _ _ (c .before .before .before .before .before .before .before .before .before .before .before .before .before .before .before .before .before .before .before .before .before .loop .inv .2)
 
 returns : tie.Need-returns Inv-loop μ-loop
 returns c =
@@ -124,7 +124,7 @@ returns c =
     let y = ap (λ (b : ℕ). ltb 0 (w .result) && eqb b 0x0A) (sym (c .before .before .before .before .before .before .before .before .before .before .before .before .before .before .before .byte-at .ensures)) ∙ c .before .before .before .before .before .before .before .before .before .before .before .before .before .before .if1 .taken in
     let m = c .before .before .before .before .before .before .before .before .command in
     let p = plays-lent (v .desk .card) _ (v .reply) _ (v .desk .room) _ _ (c .before .before .before .before .before .before .before .before .before .before .before .before .before .lent-room .ensures) (omega (arith, v .inv .1)) (m .kept .1 .1 .0) (m .ensures) in
-    played-full (a .desk) t (now (a .out)) (v .desk) (v .at) (v .n) (v .out) (v .inv .3) _ (command-line t (v .at) (v .frame) _ _ (v .inv .0) h (w .ensures) y) (omega arith) (command-inside t (v .at) (v .frame) _ _ (v .inv .0) h (w .ensures) y) (commanded (v .desk .card) (part (w .last .1 .0) 0 (w .result)) (lentRoom (v .desk .room))) _ _ (command-said t (v .at) (v .frame) _ _ (v .inv .0) h (w .ensures) y (v .desk)) p _ _ (c .before .before .before .put-line .ensures) (c .if2 .taken)
+    played-full (a .desk) t (now (a .out)) (v .desk) (v .at) (v .n) (v .out) (v .inv .2) _ (command-line t (v .at) (v .frame) _ _ (v .inv .0) h (w .ensures) y) (omega arith) (command-inside t (v .at) (v .frame) _ _ (v .inv .0) h (w .ensures) y) (commanded (v .desk .card) (part (w .last .1 .0) 0 (w .result)) (lentRoom (v .desk .room))) _ _ (command-said t (v .at) (v .frame) _ _ (v .inv .0) h (w .ensures) y (v .desk)) p _ _ (c .before .before .before .put-line .ensures) (c .if2 .taken)
 
 add-at : tie.Need-add-at Inv-loop μ-loop
 add-at c =
@@ -158,18 +158,17 @@ loop-again c =
     let p = plays-lent (v .desk .card) _ (v .reply) _ (v .desk .room) _ _ (c .before .before .before .before .before .before .before .before .before .before .before .before .before .before .lent-room .ensures) (omega (arith, v .inv .1)) (m .kept .1 .1 .0) (m .ensures) in (
       w .kept .1 .0 ∙ v .inv .0,
       length-front (v .reply) (m .last .1 .1 .0) (c .before .before .before .before .before .before .before .before .before .before .before .before .before .before .lent-room .result - 0) (m .kept .1 .1 .0) ∙ v .inv .1,
-      v .inv .2,
-      played-next (a .desk) t (now (a .out)) (v .desk) (v .at) (v .n) (v .out) (v .inv .3) _ (command-line t (v .at) (v .frame) _ _ (v .inv .0) h (w .ensures) y) (omega arith) (command-inside t (v .at) (v .frame) _ _ (v .inv .0) h (w .ensures) y) (commanded (v .desk .card) (part (w .last .1 .0) 0 (w .result)) (lentRoom (v .desk .room))) _ _ (command-said t (v .at) (v .frame) _ _ (v .inv .0) h (w .ensures) y (v .desk)) p _ _ (c .before .before .before .before .put-line .ensures) (c .before .if2 .left),
+      played-next (a .desk) t (now (a .out)) (v .desk) (v .at) (v .n) (v .out) (v .inv .2) _ (command-line t (v .at) (v .frame) _ _ (v .inv .0) h (w .ensures) y) (omega arith) (command-inside t (v .at) (v .frame) _ _ (v .inv .0) h (w .ensures) y) (commanded (v .desk .card) (part (w .last .1 .0) 0 (w .result)) (lentRoom (v .desk .room))) _ _ (command-said t (v .at) (v .frame) _ _ (v .inv .0) h (w .ensures) y (v .desk)) p _ _ (c .before .before .before .before .put-line .ensures) (c .before .if2 .left),
     )
 
 line-end-requires : tie.Need-line-end-requires Inv-loop μ-loop
-line-end-requires c κs = omega (arith, c .before .before .before .before .before .before .before .loop .inv .3 .place)
+line-end-requires c κs = omega (arith, c .before .before .before .before .before .before .before .loop .inv .2 .place)
 
 same-length-2 : tie.Need-same-length-2 Inv-loop μ-loop
-same-length-2 c = sofar-length _ _ _ _ _ _ _ (c .before .before .before .before .before .before .before .before .before .loop .inv .3)
+same-length-2 c = sofar-length _ _ _ _ _ _ _ (c .before .before .before .before .before .before .before .before .before .loop .inv .2)
 
 returns-2 : tie.Need-returns-2 Inv-loop μ-loop
-returns-2 c = sofar-part _ _ _ _ _ _ _ (c .before .before .before .before .before .before .before .before .before .loop .inv .3) _ (c .before .line-end .ensures .2) (c .if3 .taken)
+returns-2 c = sofar-part _ _ _ _ _ _ _ (c .before .before .before .before .before .before .before .before .before .loop .inv .2) _ (c .before .line-end .ensures .2) (c .if3 .taken)
 
 sub-say : tie.Need-sub-say Inv-loop μ-loop
 sub-say c = omega (arith, c .before .line-end .ensures .0, c .before .line-end .ensures .1)
@@ -183,86 +182,71 @@ part-say-end c = omega (arith, c .before .line-end .ensures .0, c .before .line-
 slice-aggregate-say : tie.Need-slice-aggregate-say Inv-loop μ-loop
 slice-aggregate-say c = search needs
 
-slice-aggregate-say-2 : tie.Need-slice-aggregate-say-2 Inv-loop μ-loop
-slice-aggregate-say-2 c = search needs
-
 say-requires : tie.Need-say-requires Inv-loop μ-loop
 say-requires c κs =
-    let a = c .before .before .before .before .before .before .before .before .before .before .before .before .before .before .before .args in
-    let v = c .before .before .before .before .before .before .before .before .before .before .before .before .loop in
+    let a = c .before .before .before .before .before .before .before .before .before .before .before .before .before .before .args in
+    let v = c .before .before .before .before .before .before .before .before .before .before .before .loop in
     let t = now (a .text) in
-    let w = c .before .before .before .before .before .before .before .before .spell in
-    let h = c .before .before .before .before .before .before .before .before .before .before .before .loop-test .taken in
-    let y = ap (λ (b : ℕ). ltb 0 (w .result) && eqb b 0x0A) (sym (c .before .before .before .before .before .before .byte-at .ensures)) ∙ c .before .before .before .before .before .if1 .left in
-    let l = c .before .before .before .before .line-end .ensures in
-    let i : c .before .before .before .before .line-end .result < length t = omega (arith, c .before .before .before .if3 .left, l .1) in
-    (no-command t (v .at) (v .frame) _ _ (v .inv .0) h (w .ensures) y _ (l .0) i (l .3 i), omega (arith, w .kept .1 .0, v .inv .0), omega (arith, v .inv .2))
+    let w = c .before .before .before .before .before .before .before .spell in
+    let h = c .before .before .before .before .before .before .before .before .before .before .loop-test .taken in
+    let y = ap (λ (b : ℕ). ltb 0 (w .result) && eqb b 0x0A) (sym (c .before .before .before .before .before .byte-at .ensures)) ∙ c .before .before .before .before .if1 .left in
+    let l = c .before .before .before .line-end .ensures in
+    let i : c .before .before .before .line-end .result < length t = omega (arith, c .before .before .if3 .left, l .1) in
+    (no-command t (v .at) (v .frame) _ _ (v .inv .0) h (w .ensures) y _ (l .0) i (l .3 i), omega (arith, w .kept .1 .0, v .inv .0))
 
-sub-put-answer : tie.Need-sub-put-answer Inv-loop μ-loop
-sub-put-answer c = omega arith
-
-part-put-answer-start : tie.Need-part-put-answer-start Inv-loop μ-loop
-part-put-answer-start c = omega arith
-
-part-put-answer-end : tie.Need-part-put-answer-end Inv-loop μ-loop
-part-put-answer-end c =
-    let v = c .before .before .before .before .before .before .before .before .before .before .before .before .before .before .before .before .loop in
-    omega (arith, said-fits _ (v .answer) _ _ (c .before .before .before .say .ensures) (c .before .before .before .say .kept .1 .1 .1 .0), c .before .before .before .say .kept .1 .1 .1 .0)
-
-put-answer-requires : tie.Need-put-answer-requires Inv-loop μ-loop
-put-answer-requires c κs = tt
+put-told-requires : tie.Need-put-told-requires Inv-loop μ-loop
+put-told-requires c κs = tt
 
 same-length-3 : tie.Need-same-length-3 Inv-loop μ-loop
-same-length-3 c = c .before .before .before .put-answer .kept .1 .1 .0 ∙ sofar-length _ _ _ _ _ _ _ (c .before .before .before .before .before .before .before .before .before .before .before .before .before .before .before .before .before .before .before .before .before .before .loop .inv .3)
+same-length-3 c = c .before .before .before .put-told .kept .1 .1 .0 ∙ sofar-length _ _ _ _ _ _ _ (c .before .before .before .before .before .before .before .before .before .before .before .before .before .before .before .before .before .before .loop .inv .2)
 
 returns-3 : tie.Need-returns-3 Inv-loop μ-loop
 returns-3 c =
-    let a = c .before .before .before .before .before .before .before .before .before .before .before .before .before .before .before .before .before .before .before .before .before .before .before .before .before .args in
-    let v = c .before .before .before .before .before .before .before .before .before .before .before .before .before .before .before .before .before .before .before .before .before .before .loop in
+    let a = c .before .before .before .before .before .before .before .before .before .before .before .before .before .before .before .before .before .before .before .before .before .args in
+    let v = c .before .before .before .before .before .before .before .before .before .before .before .before .before .before .before .before .before .before .loop in
     let t = now (a .text) in
-    let l = c .before .before .before .before .before .before .before .before .before .before .before .before .before .before .line-end .ensures in
-    let i : c .before .before .before .before .before .before .before .before .before .before .before .before .before .before .line-end .result < length t = omega (arith, c .before .before .before .before .before .before .before .before .before .before .before .before .before .if3 .left, l .1) in
-    let g = c .before .before .before .before .before .before .before .before .before .say in
-    let x = said-put (lineSaid (v .desk) (part t (v .at) (c .before .before .before .before .before .before .before .before .before .before .before .before .before .before .line-end .result))) (v .answer) _ _ (g .ensures) (v .out) (v .n) _ _ (c .before .before .before .put-answer .ensures) in
-    sofar-full (a .desk) t (now (a .out)) (v .desk) (v .at) (v .n) (v .out) (v .inv .3) _ (l .2) (l .0) i _ _ x (c .if4 .taken)
+    let l = c .before .before .before .before .before .before .before .before .before .before .line-end .ensures in
+    let i : c .before .before .before .before .before .before .before .before .before .before .line-end .result < length t = omega (arith, c .before .before .before .before .before .before .before .before .before .if3 .left, l .1) in
+    let g = c .before .before .before .before .before .before .say in
+    let x = rw (g .ensures) at (c .before .before .before .put-told .ensures) in
+    sofar-full (a .desk) t (now (a .out)) (v .desk) (v .at) (v .n) (v .out) (v .inv .2) _ (l .2) (l .0) i _ _ x (c .if4 .taken)
 
 add-at-2 : tie.Need-add-at-2 Inv-loop μ-loop
 add-at-2 c =
-    let a = c .before .before .before .before .before .before .before .before .before .before .before .before .before .before .before .before .before .before .before .before .before .before .before .before .before .before .args in
+    let a = c .before .before .before .before .before .before .before .before .before .before .before .before .before .before .before .before .before .before .before .before .before .before .args in
     let t = now (a .text) in
-    let l = c .before .before .before .before .before .before .before .before .before .before .before .before .before .before .before .line-end .ensures in
-    let i : c .before .before .before .before .before .before .before .before .before .before .before .before .before .before .before .line-end .result < length t = omega (arith, c .before .before .before .before .before .before .before .before .before .before .before .before .before .before .if3 .left, l .1) in
-    record { fits = omega (arith, c .before .before .before .before .before .before .before .before .before .before .before .before .before .before .before .before .before .before .before .before .before .before .before .before .before .before .good) }
+    let l = c .before .before .before .before .before .before .before .before .before .before .before .line-end .ensures in
+    let i : c .before .before .before .before .before .before .before .before .before .before .before .line-end .result < length t = omega (arith, c .before .before .before .before .before .before .before .before .before .before .if3 .left, l .1) in
+    record { fits = omega (arith, c .before .before .before .before .before .before .before .before .before .before .before .before .before .before .before .before .before .before .before .before .before .before .good) }
 
 loop-less-2 : tie.Need-loop-less-2 Inv-loop μ-loop
 loop-less-2 c =
-    let a = c .before .before .before .before .before .before .before .before .before .before .before .before .before .before .before .before .before .before .before .before .before .before .before .before .before .before .args in
+    let a = c .before .before .before .before .before .before .before .before .before .before .before .before .before .before .before .before .before .before .before .before .before .before .args in
     let t = now (a .text) in
-    let l = c .before .before .before .before .before .before .before .before .before .before .before .before .before .before .before .line-end .ensures in
-    let i : c .before .before .before .before .before .before .before .before .before .before .before .before .before .before .before .line-end .result < length t = omega (arith, c .before .before .before .before .before .before .before .before .before .before .before .before .before .before .if3 .left, l .1) in
+    let l = c .before .before .before .before .before .before .before .before .before .before .before .line-end .ensures in
+    let i : c .before .before .before .before .before .before .before .before .before .before .before .line-end .result < length t = omega (arith, c .before .before .before .before .before .before .before .before .before .before .if3 .left, l .1) in
     omega arith
 
 loop-again-2 : tie.Need-loop-again-2 Inv-loop μ-loop
 loop-again-2 c =
-    let a = c .before .before .before .before .before .before .before .before .before .before .before .before .before .before .before .before .before .before .before .before .before .before .before .before .before .before .args in
-    let v = c .before .before .before .before .before .before .before .before .before .before .before .before .before .before .before .before .before .before .before .before .before .before .before .loop in
+    let a = c .before .before .before .before .before .before .before .before .before .before .before .before .before .before .before .before .before .before .before .before .before .before .args in
+    let v = c .before .before .before .before .before .before .before .before .before .before .before .before .before .before .before .before .before .before .before .loop in
     let t = now (a .text) in
-    let w = c .before .before .before .before .before .before .before .before .before .before .before .before .before .before .before .before .before .before .before .spell in
-    let l = c .before .before .before .before .before .before .before .before .before .before .before .before .before .before .before .line-end .ensures in
-    let i : c .before .before .before .before .before .before .before .before .before .before .before .before .before .before .before .line-end .result < length t = omega (arith, c .before .before .before .before .before .before .before .before .before .before .before .before .before .before .if3 .left, l .1) in
-    let g = c .before .before .before .before .before .before .before .before .before .before .say in
-    let x = said-put (lineSaid (v .desk) (part t (v .at) (c .before .before .before .before .before .before .before .before .before .before .before .before .before .before .before .line-end .result))) (v .answer) _ _ (g .ensures) (v .out) (v .n) _ _ (c .before .before .before .before .put-answer .ensures) in (
+    let w = c .before .before .before .before .before .before .before .before .before .before .before .before .before .before .before .spell in
+    let l = c .before .before .before .before .before .before .before .before .before .before .before .line-end .ensures in
+    let i : c .before .before .before .before .before .before .before .before .before .before .before .line-end .result < length t = omega (arith, c .before .before .before .before .before .before .before .before .before .before .if3 .left, l .1) in
+    let g = c .before .before .before .before .before .before .before .say in
+    let x = rw (g .ensures) at (c .before .before .before .before .put-told .ensures) in (
       g .kept .1 .1 .0 ∙ (w .kept .1 .0 ∙ v .inv .0),
       v .inv .1,
-      g .kept .1 .1 .1 .0 ∙ v .inv .2,
-      sofar-as _ _ _ _ _ _ _ _ (said-desk _ _ (g .ensures .0)) (sofar-next (a .desk) t (now (a .out)) (v .desk) (v .at) (v .n) (v .out) (v .inv .3) _ (l .2) (l .0) i _ _ x (c .before .if4 .left)),
+      sofar-as _ _ _ _ _ _ _ _ (told-desk _ (g .ensures)) (sofar-next (a .desk) t (now (a .out)) (v .desk) (v .at) (v .n) (v .out) (v .inv .2) _ (l .2) (l .0) i _ _ x (c .before .if4 .left)),
     )
 
 same-length-4 : tie.Need-same-length-4 Inv-loop μ-loop
-same-length-4 c = sofar-length _ _ _ _ _ _ _ (c .before .loop .inv .3)
+same-length-4 c = sofar-length _ _ _ _ _ _ _ (c .before .loop .inv .2)
 
 returns-4 : tie.Need-returns-4 Inv-loop μ-loop
-returns-4 c = sofar-end _ _ _ _ _ _ _ (c .before .loop .inv .3) (c .loop-test .left)
+returns-4 c = sofar-end _ _ _ _ _ _ _ (c .before .loop .inv .2) (c .loop-test .left)
 
 pub run-spec : {M : Type 1} → statement M
 run-spec =
@@ -303,12 +287,8 @@ run-spec =
     part-say-start
     part-say-end
     slice-aggregate-say
-    slice-aggregate-say-2
     say-requires
-    sub-put-answer
-    part-put-answer-start
-    part-put-answer-end
-    put-answer-requires
+    put-told-requires
     same-length-3
     returns-3
     add-at-2

@@ -1,4 +1,4 @@
-use Rattle.script.specs.Laws.{tells-as, spelt-behind, lettered-leading}
+use Rattle.script.specs.Laws.{spelt-behind, lettered-leading}
 use Rattle.script.specs.Lines.{letteredBy}
 use Rattle.text.specs.Hex.{isHex}
 use Rattle.text.specs.Laws.{leading-most, hex-test}
@@ -18,11 +18,10 @@ spell-requires c κs = tt
 
 mul-digits : tie.Need-mul-digits
 mul-digits c =
-    let a = c .before .before .before .before .before .before .before .args in
-    let p = c .before .before .before .before .before .before .before .pre in
-    let m = leading-most (now (a .rest)) in
-    let s = spelt-behind (now (a .rest)) (now (a .bytes)) _ _ (p .0) (p .1) (c .before .before .spell .ensures) in
-    omega arith
+    let s = c .before .before .before .before .before .before in
+    let w = c .before .before .spell in
+    let q = spelt-behind (now (s .args .rest)) (now (s .args .bytes)) _ _ (s .pre .0) (s .pre .1) (w .ensures) in
+    omega (arith, leading-most (now (s .args .rest)))
 
 sub-say-spelt : tie.Need-sub-say-spelt
 sub-say-spelt c = search needs
@@ -32,31 +31,27 @@ part-say-spelt-start c = search needs
 
 part-say-spelt-end : tie.Need-part-say-spelt-end
 part-say-spelt-end c =
-    let a = c .before .before .before .before .before .before .before .before .args in
-    let p = c .before .before .before .before .before .before .before .before .pre in
-    let s = spelt-behind (now (a .rest)) (now (a .bytes)) _ _ (p .0) (p .1) (c .before .before .before .spell .ensures) in
+    let s = c .before .before .before .before .before .before .before in
+    let w = c .before .before .before .spell in
+    let q = spelt-behind (now (s .args .rest)) (now (s .args .bytes)) _ _ (s .pre .0) (s .pre .1) (w .ensures) in
     omega arith
 
 say-spelt-requires : tie.Need-say-spelt-requires
-say-spelt-requires c κs = search needs
+say-spelt-requires c κs = tt
 
 same-length : tie.Need-same-length
 same-length c = search needs
 
-same-length-2 : tie.Need-same-length-2
-same-length-2 c = search needs
-
 returns : tie.Need-returns
 returns c =
-    let a = c .before .before .before .before .before .before .before .before .before .before .before .before .before .args in
-    let p = c .before .before .before .before .before .before .before .before .before .before .before .before .before .pre in
-    let r = now (a .rest) in
-    let s = spelt-behind r (now (a .bytes)) _ _ (p .0) (p .1) (c .before .before .before .before .before .before .before .before .spell .ensures) in
-    let d = ap (λ n. eqb (2 * n) (length r)) (s .2) ∙ hex-test r in
-    tells-as _ _ _ _ _
-    (ap (λ h. letteredBy (a .desk) (a .letter) (length r) h (part (c .before .before .before .before .before .before .before .before .spell .last .1 .0) 0 (c .before .before .before .before .before .before .before .before .spell .result))) d
-    ∙ (ap (letteredBy (a .desk) (a .letter) (length r) (isHex r)) (s .0) ∙ lettered-leading (a .desk) (a .letter) r))
-    (c .before .before .say-spelt .ensures)
+    let s = c .before .before .before .before .before .before .before .before .before in
+    let w = c .before .before .before .before .before .spell in
+    let q = spelt-behind (now (s .args .rest)) (now (s .args .bytes)) _ _ (s .pre .0) (s .pre .1) (w .ensures) in
+    let r = now (s .args .rest) in
+    let k = letteredBy (s .args .desk) (s .args .letter) (length r) in
+    c .say-spelt .ensures
+    ∙ (ap (λ h. k h (part (w .last .1 .0) 0 (w .result))) (ap (λ n. eqb (2 * n) (length r)) (q .2) ∙ hex-test r)
+    ∙ (ap (k (isHex r)) (q .0) ∙ lettered-leading (s .args .desk) (s .args .letter) r))
 
 pub say-lettered-spec : {M : Type 1} → statement M
 say-lettered-spec =
@@ -69,5 +64,4 @@ say-lettered-spec =
     part-say-spelt-end
     say-spelt-requires
     same-length
-    same-length-2
     returns)

@@ -1,89 +1,68 @@
-use Rattle.script.specs.Laws.{tells-as}
-use Rattle.script.specs.Lines.{letteredBy}
+use Rattle.script.specs.Lines.{saidOf, textOf, unread, counted, lent, bookKept, letteredBy}
+use Rattle.access.specs.declared.Session.the-variants.{Key}
+use Rattle.card.specs.Events.{sessionChanged}
 use Rattle.tables.specs.Choice.{order}
-use borrow.Author.Needs.{needs}
+use mathlib.Core.Path.{ap, _∙_}
 use Rattle.script.proofs.letters.say_spelt.Statement.{statement}
 use Rattle.script.proofs.letters.say_spelt.Tie as tie
 
-say-personalise-requires : tie.Need-say-personalise-requires
-say-personalise-requires c κs = search needs
-
-same-length : tie.Need-same-length
-same-length c = search needs
+personalise-requires : tie.Need-personalise-requires
+personalise-requires c κs = tt
 
 returns : tie.Need-returns
 unfolding letteredBy
-returns c = tells-as _ _ _ _ _ (search order depth 9) (c .before .before .say-personalise .ensures)
+returns c = c .personalise .ensures ∙ search order depth 9
 
-say-session-requires : tie.Need-say-session-requires
-say-session-requires c κs = search needs
-
-same-length-2 : tie.Need-same-length-2
-same-length-2 c = search needs
+change-session-requires : tie.Need-change-session-requires
+change-session-requires c κs = tt
 
 returns-2 : tie.Need-returns-2
 unfolding letteredBy
-returns-2 c = tells-as _ _ _ _ _ (search order depth 9) (c .before .before .say-session .ensures)
+returns-2 c = c .change-session .ensures ∙ search order depth 9
 
-say-key-requires : tie.Need-say-key-requires
-say-key-requires c κs = search needs
+byte-at-requires : tie.Need-byte-at-requires
+byte-at-requires c κs = tt
 
-same-length-3 : tie.Need-same-length-3
-same-length-3 c = search needs
+change-session-requires-2 : tie.Need-change-session-requires-2
+change-session-requires-2 c κs = tt
 
 returns-3 : tie.Need-returns-3
 unfolding letteredBy
-returns-3 c = tells-as _ _ _ _ _ (search order depth 9) (c .before .before .say-key .ensures)
+returns-3 c =
+    let k = c .before .before .before .before .before .before .args .desk in
+    c .change-session2 .ensures ∙ (ap (λ b. counted k (sessionChanged (k .card) (Key b))) (c .before .byte-at .ensures) ∙ search order depth 9)
 
-say-length-requires : tie.Need-say-length-requires
-say-length-requires c κs = search needs
+length-in-requires : tie.Need-length-in-requires
+length-in-requires c κs = tt
 
-same-length-4 : tie.Need-same-length-4
-same-length-4 c = search needs
+lend-requires : tie.Need-lend-requires
+lend-requires c κs = tt
 
 returns-4 : tie.Need-returns-4
 unfolding letteredBy
-returns-4 c = tells-as _ _ _ _ _ (search order depth 9) (c .before .before .say-length .ensures)
-
-say-books-requires : tie.Need-say-books-requires
-say-books-requires c κs = search needs
-
-same-length-5 : tie.Need-same-length-5
-same-length-5 c = search needs
+returns-4 c = c .lend .ensures ∙ (ap (lent (c .before .before .before .before .before .before .before .args .desk)) (c .before .length-in .ensures) ∙ search order depth 9)
 
 returns-5 : tie.Need-returns-5
-unfolding letteredBy
-returns-5 c = tells-as _ _ _ _ _ (search order depth 9) (c .before .before .say-books .ensures)
-
-say-unread-requires : tie.Need-say-unread-requires
-say-unread-requires c κs = search needs
-
-same-length-6 : tie.Need-same-length-6
-same-length-6 c = search needs
+unfolding letteredBy saidOf textOf bookKept
+returns-5 c = search order depth 9
 
 returns-6 : tie.Need-returns-6
-unfolding letteredBy
-returns-6 c = tells-as _ _ _ _ _ (search order depth 9) (c .before .before .say-unread .ensures)
+unfolding letteredBy saidOf textOf unread
+returns-6 c = search order depth 9
 
 pub say-spelt-spec : {M : Type 1} → statement M
 say-spelt-spec =
     tie.close
     (tie.spec
-    say-personalise-requires
-    same-length
+    personalise-requires
     returns
-    say-session-requires
-    same-length-2
+    change-session-requires
     returns-2
-    say-key-requires
-    same-length-3
+    byte-at-requires
+    change-session-requires-2
     returns-3
-    say-length-requires
-    same-length-4
+    length-in-requires
+    lend-requires
     returns-4
-    say-books-requires
-    same-length-5
     returns-5
-    say-unread-requires
-    same-length-6
     returns-6)
