@@ -134,6 +134,15 @@ impl Condition {
         }
     }
 
+    /// The nibble of the condition.
+    fn nibble(self) -> u8 {
+        match self {
+            Self::Key(key) => key,
+            Self::Free => 0xE,
+            Self::Never => 0xF,
+        }
+    }
+
     /// Whether the condition is free or equals the session key (place 9).
     fn admits(self, session: Option<u8>) -> bool {
         match self {
@@ -177,6 +186,15 @@ impl Rights {
             read_write: nibble(4)?,
             change: nibble(0)?,
         })
+    }
+
+    /// The word that the rights were taken from.
+    pub fn word(self) -> u16 {
+        [self.read, self.write, self.read_write, self.change]
+            .into_iter()
+            .fold(0, |word, condition| {
+                (word << 4) | u16::from(condition.nibble())
+            })
     }
 }
 
@@ -374,6 +392,9 @@ enum Command<'a> {
         option: u8,
     },
     Abort,
+    GetFileSettings {
+        file: u8,
+    },
 }
 
 /// A figure of three bytes, least significant first.
@@ -382,6 +403,11 @@ fn figure3(bytes: &[u8]) -> usize {
         .iter()
         .rev()
         .fold(0, |sum, &byte| (sum << 8) | usize::from(byte))
+}
+
+/// The three bytes of a figure, least significant first.
+fn bytes3(figure: usize) -> [u8; 3] {
+    [0, 8, 16].map(|shift| (figure >> shift) as u8)
 }
 
 /// Places 1 to 4: the INS byte and data field of a frame.
@@ -462,6 +488,9 @@ impl<'a> Command<'a> {
             },
             0xA7 if data.is_empty() => Self::Abort,
             0xA7 => return Err(Refusal::DataLength),
+            0xF5 => Self::GetFileSettings {
+                file: file_alone(data)?,
+            },
             _ => return Err(Refusal::Instruction),
         };
         Ok(command)
@@ -687,6 +716,7 @@ impl Card {
             Command::ClearRecordFile { file } => self.clear_record_file(file).map(|()| 0),
             Command::Commit { option } => self.commit(option).map(|()| 0),
             Command::Abort => self.abort().map(|()| 0),
+            Command::GetFileSettings { file } => self.get_file_settings(file, reply),
         }
     }
 
@@ -898,6 +928,40 @@ impl Card {
         }
         self.pending = Pending::default();
         Ok(())
+    }
+
+    /// GetFileSettings (request 02): no access condition, so places 8 to 13 are
+    /// skipped. File kind, option byte 00h and rights, then what the kind has.
+    fn get_file_settings(&self, number: u8, reply: &mut [u8]) -> Result<usize, Refusal> {
+        let mut settings = Vec::new();
+        let mut head = |kind: u8, rights: Rights| {
+            settings.extend_from_slice(&[kind, 0x00]);
+            settings.extend_from_slice(&rights.word().to_le_bytes());
+        };
+        match FileName::from_number(number)? {
+            FileName::Data(index) => {
+                let file = &self.data[index];
+                head(0x00, file.rights);
+                settings.extend_from_slice(&bytes3(file.bytes.len()));
+            }
+            FileName::Value => {
+                let file = &self.value;
+                head(0x02, file.rights);
+                for figure in [file.lower, file.upper, file.allowance] {
+                    settings.extend_from_slice(&figure.to_le_bytes());
+                }
+                let switches = [file.limited_credit, file.free_get_value].map(u8::from);
+                settings.push(switches[0] | switches[1] << 1);
+            }
+            FileName::Log => {
+                head(0x04, self.log.rights);
+                for figure in [ENTRY_SIZE, LOG_ENTRIES, self.log.entries.len()] {
+                    settings.extend_from_slice(&bytes3(figure));
+                }
+            }
+        }
+        reply[..settings.len()].copy_from_slice(&settings);
+        Ok(settings.len())
     }
 
     /// The figures the bench's `B` line shows.
@@ -1279,6 +1343,86 @@ mod tests {
         assert_eq!(reply(&mut personalise(0xFF1F, true), &frame), granted);
         assert_eq!(reply(&mut personalise(0xFF1F, false), &frame), [0x91, 0xAE]);
         assert_eq!(reply(&mut personalise(0xFFFE, true), &frame), [0x91, 0x9D]);
+    }
+
+    #[test]
+    fn settings_of_each_kind_need_no_right() {
+        let sealed = Personalisation {
+            rights: [0xFFFF; 5],
+            lower: -2,
+            free_get_value: true,
+            ..PROGRAM_CARD
+        };
+        let mut card = Card::personalise(&sealed).unwrap();
+        let mut settings = |file| reply(&mut card, &frame(0xF5, &[file]));
+        let data = [0x00, 0x00, 0xFF, 0xFF, 0x00, 0x01, 0x00, 0x91, 0x00];
+        assert_eq!(settings(0x00), data);
+        assert_eq!(settings(0x04), data);
+        assert_eq!(
+            settings(0x1F),
+            [0x00, 0x00, 0xFF, 0xFF, 0x20, 0x00, 0x00, 0x91, 0x00]
+        );
+        assert_eq!(
+            settings(0x03),
+            [
+                0x02, 0x00, 0xFF, 0xFF, 0xFE, 0xFF, 0xFF, 0xFF, 0xE8, 0x03, 0x00, 0x00, 0x00, 0x00,
+                0x00, 0x00, 0x03, 0x91, 0x00
+            ]
+        );
+        assert_eq!(
+            settings(0x01),
+            [
+                0x04, 0x00, 0xFF, 0xFF, 0x10, 0x00, 0x00, 0x04, 0x00, 0x00, 0x00, 0x00, 0x00, 0x91,
+                0x00
+            ]
+        );
+    }
+
+    #[test]
+    fn settings_show_committed_figures_and_leave_pending_work() {
+        let mut card = Card::program_card();
+        let settings = |card: &mut Card| {
+            let value = reply(card, &frame(0xF5, &[0x03]));
+            let log = reply(card, &frame(0xF5, &[0x01]));
+            (value[12..16].to_vec(), log[10..13].to_vec())
+        };
+        for frame in [debit(0x102), with_write(0x8B, 0x01, 0, &[0x77])] {
+            card.value.value = 0x102;
+            assert_eq!(reply(&mut card, &frame), OK);
+            assert_eq!(settings(&mut card), (vec![0; 4], vec![0; 3]));
+        }
+        assert_eq!(reply(&mut card, &commit()), OK);
+        let committed = (vec![0x02, 0x01, 0x00, 0x00], vec![0x01, 0x00, 0x00]);
+        assert_eq!(settings(&mut card), committed);
+        assert_eq!(reply(&mut card, &limited_credit(2)), OK);
+        assert_eq!(settings(&mut card), committed);
+    }
+
+    #[test]
+    fn settings_have_rights_least_significant_byte_first() {
+        let mut card = Card::personalise(&Personalisation {
+            rights: [0x0123, 0x4EEF, 0xFFFF, 0xEEEE, 0x0000],
+            ..PROGRAM_CARD
+        })
+        .unwrap();
+        assert_eq!(reply(&mut card, &frame(0xF5, &[0x00]))[2..4], [0x23, 0x01]);
+        assert_eq!(reply(&mut card, &frame(0xF5, &[0x04]))[2..4], [0xEF, 0x4E]);
+    }
+
+    #[test]
+    fn settings_are_refused_up_to_place_7() {
+        for (frame, status) in [
+            (vec![0x90, 0xF5, 0x00, 0x00, 0x01, 0x03, 0x01], [0x67, 0x00]),
+            (frame(0xF5, &[]), [0x91, 0x7E]),
+            (frame(0xF5, &[0x03, 0x00]), [0x91, 0x7E]),
+            (frame(0xF5, &[0x02]), [0x91, 0xF0]),
+        ] {
+            let mut card = Card::program_card();
+            card.change_session(Some(3)).unwrap();
+            assert_eq!(reply(&mut card, &debit(1)), OK);
+            assert_eq!(reply(&mut card, &frame), status);
+            assert_eq!(card, Card::program_card());
+        }
     }
 
     #[test]

@@ -71,7 +71,8 @@ pub mod ins {
     pub const CLEAR_RECORD_FILE: u8 = 0xEB;
     pub const COMMIT: u8 = 0xC7;
     pub const ABORT: u8 = 0xA7;
-    pub const ALL: [u8; 11] = [
+    pub const GET_FILE_SETTINGS: u8 = 0xF5;
+    pub const ALL: [u8; 12] = [
         READ_DATA,
         WRITE_DATA,
         GET_VALUE,
@@ -83,8 +84,17 @@ pub mod ins {
         CLEAR_RECORD_FILE,
         COMMIT,
         ABORT,
+        GET_FILE_SETTINGS,
     ];
     pub const WITH_AMOUNT: [u8; 3] = [CREDIT, DEBIT, LIMITED_CREDIT];
+}
+
+/// The file numbers, in the order of a personalisation's rights.
+const FILES: [u8; 5] = [0x00, 0x04, 0x1F, 0x03, 0x01];
+
+/// The place of a file in that order.
+fn file_place(file: u8) -> Option<usize> {
+    FILES.iter().position(|&number| number == file)
 }
 
 /// The largest figure of three bytes.
@@ -189,11 +199,17 @@ pub struct Tally {
     /// `?` lines.
     pub others: u64,
     /// Accepted commands, in the order of the command table.
-    pub accepted: [u64; 11],
+    pub accepted: [u64; 12],
     /// Refused commands, by the place of the order of checks.
     pub places: [u64; 13],
     /// Amounts of 0 refused for that, in Credit, Debit and LimitedCredit.
     pub zero_amounts: [u64; 3],
+    /// Accepted GetFileSettings of the files 00h, 04h, 1Fh, 03h and 01h.
+    pub settings: [u64; 5],
+    /// Those of a file whose R, W and RW are all Fh.
+    pub sealed_settings: u64,
+    /// Refused ones, by the place of the order of checks.
+    pub settings_places: [u64; 13],
     /// Commits that pushed an entry out of the log.
     pub pushed_out: u64,
     /// Commits whose Debit sum was held at 2,147,483,647.
@@ -234,9 +250,14 @@ impl std::fmt::Display for Tally {
         for (place, count) in (1..).zip(self.places) {
             write!(f, " {place}:{count}")?;
         }
+        writeln!(
+            f,
+            "\nsettings of each file {:?}, of them sealed {}, refused by place {:?}",
+            self.settings, self.sealed_settings, self.settings_places
+        )?;
         write!(
             f,
-            "\namounts of 0 {:?}, entries pushed out {}, Debit sums held {}, long transactions {}",
+            "amounts of 0 {:?}, entries pushed out {}, Debit sums held {}, long transactions {}",
             self.zero_amounts, self.pushed_out, self.held_sums, self.long_transactions
         )
     }
@@ -435,9 +456,12 @@ impl Writer {
     fn frame(&mut self, frame: &[u8], outcome: Result<usize, Refusal>) {
         if self.bench.room() >= REPLY_ROOM {
             match outcome {
-                Ok(_) => self.count_accepted(frame[1]),
+                Ok(_) => self.count_accepted(frame),
                 Err(refusal) => {
                     self.tally.places[refusal.place() - 1] += 1;
+                    if frame.get(1) == Some(&ins::GET_FILE_SETTINGS) {
+                        self.tally.settings_places[refusal.place() - 1] += 1;
+                    }
                     if refusal == Refusal::BadParameter {
                         self.count_zero_amount(frame);
                     }
@@ -457,7 +481,16 @@ impl Writer {
         }
     }
 
-    fn count_accepted(&mut self, instruction: u8) {
+    fn count_settings(&mut self, file: u8) {
+        let place = file_place(file).expect("an accepted file is known");
+        let rights = self.bench.card().rights()[place];
+        let sealed = [rights.read, rights.write, rights.read_write] == [Condition::Never; 3];
+        self.tally.settings[place] += 1;
+        self.tally.sealed_settings += u64::from(sealed);
+    }
+
+    fn count_accepted(&mut self, frame: &[u8]) {
+        let instruction = frame[1];
         let books = self.bench.card().books();
         let place = ins::ALL.iter().position(|&known| known == instruction);
         self.tally.accepted[place.expect("an accepted instruction is known")] += 1;
@@ -469,6 +502,7 @@ impl Writer {
                 self.open = 0;
             }
             ins::ABORT => self.open = 0,
+            ins::GET_FILE_SETTINGS => self.count_settings(frame[5]),
             ins::READ_DATA | ins::WRITE_DATA | ins::GET_VALUE | ins::READ_RECORDS => {}
             _ => self.open += 1,
         }
@@ -496,10 +530,7 @@ impl Writer {
 
     /// A session with a key that the rights of a file name.
     fn useful_session(&mut self, file: u8) {
-        let place = [0x00, 0x04, 0x1F, 0x03, 0x01]
-            .iter()
-            .position(|&number| number == file);
-        let rights = self.bench.card().rights()[place.unwrap_or(0)];
+        let rights = self.bench.card().rights()[file_place(file).unwrap_or(0)];
         let keys: Vec<u8> = [rights.read, rights.write, rights.read_write]
             .iter()
             .filter_map(|&condition| match condition {
@@ -515,6 +546,9 @@ impl Writer {
 
     /// A frame that is sound in form, with figures at and around the edges.
     fn sound_frame(&mut self) -> Vec<u8> {
+        if self.rng.percent(8) {
+            return frame(ins::GET_FILE_SETTINGS, &[self.file(&FILES)]);
+        }
         let total: u64 = self.mood.weights.iter().sum();
         let mut roll = self.rng.below(total);
         let group = self
@@ -1127,6 +1161,15 @@ mod tests {
             "{tally}"
         );
         assert!(tally.accepted.iter().all(|&count| count >= 500), "{tally}");
+        assert!(tally.settings.iter().all(|&count| count >= 300), "{tally}");
+        assert!(tally.sealed_settings >= 100, "{tally}");
+        let (refused, never) = tally.settings_places.split_at(7);
+        assert!(
+            refused[..4].iter().all(|&count| count >= 10) && refused[4] == 0,
+            "{tally}"
+        );
+        assert!(refused[5..].iter().all(|&count| count >= 10), "{tally}");
+        assert_eq!(never, [0; 6], "{tally}");
         assert!(
             tally.personalisations.iter().all(|&count| count >= 20),
             "{tally}"

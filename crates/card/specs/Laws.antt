@@ -62,7 +62,7 @@ answered-as o o′ b b₂ r e a = (cc, cc)
 
 -- what an accepted command lays at the front is its data
 pub accepted-shows : (c : Card) (i : ℕ) (d b b₁ : List ℕ) (n : ℕ) → commandStatus (view c .core) i d ≡ ok → broken c ≡ false → replyRoom ≤ length b
-    → length (c .log .slots) ≡ 64 → length (c .log .entry) ≡ 16 → Shows (shownIn (length b) (c .files) (c .purse .value) (c .log) i d) b b₁ n
+    → length (c .log .slots) ≡ 64 → length (c .log .entry) ≡ 16 → Shows (shownIn (length b) (c .settings) (c .files) (c .purse) (c .log) i d) b b₁ n
     → Shows (shown (view c) i d) b b₁ n × (n ≤ 256)
 unfolding view
 accepted-shows c i d b b₁ n e r room ls le s =

@@ -218,10 +218,11 @@ impl Card {
         requires { ⌜ (shows ins ≡ true) × (commandStatus (view self .core) ins (now d) ≡ ok) × (broken self ≡ false) × (replyRoom ≤ length (now reply)) ⌝ }
         ensures { λ r. ⌜ Answered (laidInto self (accepted (view self) ins (now (d .entry)))) (now (reply .entry)) (now (reply .exit)) r ⌝ }
     {
+        let settings = self.settings;
         let files = self.files;
         let purse = self.purse;
         let log = self.log;
-        let n = effects::show(files, purse.value, log, ins, d, reply);
+        let n = effects::show(settings, files, purse, log, ins, d, reply);
         let two = wire::word_of(Card::OK);
         wire::lay(reply, n, &two);
         Reply {

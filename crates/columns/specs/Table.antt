@@ -39,6 +39,9 @@ commitTransaction = 0xC7
 abbrev pub abortTransaction : ℕ
 abortTransaction = 0xA7
 
+abbrev pub getFileSettings : ℕ
+getFileSettings = 0xF5
+
 -- ---- on which kind of file a command acts
 
 abbrev pub onData : ℕ → Bool
@@ -53,13 +56,17 @@ onLog i = eqb i readRecords || eqb i writeRecord || eqb i clearRecordFile
 unfoldable pub onFile : ℕ → Bool
 onFile i = onData i || onValue i || onLog i
 
+-- the commands that name a file: these, and GetFileSettings, which any file suits and no right grants
+unfoldable pub namesFile : ℕ → Bool
+namesFile i = onFile i || eqb i getFileSettings
+
 -- commit and abort, which name no file
 abbrev pub ends : ℕ → Bool
 ends i = eqb i commitTransaction || eqb i abortTransaction
 
 -- the commands whose reply has data; they change nothing
 abbrev pub shows : ℕ → Bool
-shows i = eqb i readData || eqb i getValue || eqb i readRecords
+shows i = eqb i readData || eqb i getValue || eqb i readRecords || eqb i getFileSettings
 
 -- ---- granted by: R, W as listed; RW grants every command on a file
 

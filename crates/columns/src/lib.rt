@@ -3,7 +3,7 @@ pub mod table;
 
 use datafiles::Files;
 ghost use mathlib.Core.Path.{_≡_};
-ghost use Rattle.columns.specs.Table.{onData, onValue, onLog, onFile, ends, byRead, byWrite, isData, isFile, suits, shows};
+ghost use Rattle.columns.specs.Table.{onData, onValue, onLog, onFile, namesFile, ends, byRead, byWrite, isData, isFile, suits, shows};
 
 pub fn on_data(ins: u8) -> bool
     ensures { λ r. ⌜ r ≡ onData ins ⌝ }
@@ -32,6 +32,14 @@ pub fn on_file(ins: u8) -> bool
     on_data(ins) | on_value(ins) | on_log(ins)
 }
 
+// The commands on a file, and GetFileSettings.
+pub fn names_file(ins: u8) -> bool
+    ensures { λ r. ⌜ r ≡ namesFile ins ⌝ }
+{
+    let file = on_file(ins);
+    file | (ins == table::GET_FILE_SETTINGS)
+}
+
 // Commit and abort, which name no file.
 pub fn ends_all(ins: u8) -> bool
     ensures { λ r. ⌜ r ≡ ends ins ⌝ }
@@ -58,7 +66,7 @@ pub fn by_write(ins: u8) -> bool
         | (ins == table::WRITE_RECORD)
 }
 
-fn is_data(n: u8) -> bool
+pub fn is_data(n: u8) -> bool
     ensures { λ r. ⌜ r ≡ isData n ⌝ }
 {
     (n == Files::DATA_00) | (n == Files::DATA_04) | (n == Files::DATA_1F)
@@ -86,5 +94,6 @@ pub fn suits_file(ins: u8, n: u8) -> bool
 pub fn shows(ins: u8) -> bool
     ensures { λ r. ⌜ r ≡ shows ins ⌝ }
 {
-    (ins == table::READ_DATA) | (ins == table::GET_VALUE) | (ins == table::READ_RECORDS)
+    let read = (ins == table::READ_DATA) | (ins == table::GET_VALUE) | (ins == table::READ_RECORDS);
+    read | (ins == table::GET_FILE_SETTINGS)
 }

@@ -21,6 +21,8 @@ pub const COMMIT_TRANSACTION: u8 = 0xC7;
 
 pub const ABORT_TRANSACTION: u8 = 0xA7;
 
+pub const GET_FILE_SETTINGS: u8 = 0xF5;
+
 pub const VALUE_03: u8 = 0x03;
 
 pub const LOG_01: u8 = 0x01;

@@ -15,9 +15,9 @@ use Rattle.limits.specs.Limits.{within}
 use Rattle.purse.specs.declared.Purse.{Purse}
 use Rattle.logbook.specs.Journal.{entrySize}
 use Rattle.frames.specs.Frame.{insOf, dataOf, fileOf, offsetOf, lengthOf, amountOf}
-use Rattle.columns.specs.Table.{readData, writeData, credit, debit, limitedCredit, readRecords, writeRecord}
+use Rattle.columns.specs.Table.{readData, writeData, credit, debit, limitedCredit, readRecords, writeRecord, getFileSettings, onFile}
 use Rattle.commands.specs.State.{Core}
-use Rattle.commands.specs.Rows.{ranged, roomOf, amountCases, outside, rowsOf, ok, statusOf, commandStatus}
+use Rattle.commands.specs.Rows.{otherKindOrNever, notGranted, switchedOff, parameterCases, ranged, roomOf, amountCases, outside, nothingPending, rowsOf, ok, statusOf, commandStatus}
 
 -- none of the thirteen rows applies
 pub clear : (c : Core) (f : List ℕ) → statusOf c f ≡ ok → NoReason (rowsOf c f (insOf f) (dataOf f))
@@ -34,6 +34,11 @@ unfolding statusOf commandStatus rowsOf
 command-ok c f e =
     let n = clear c f e in
     sym (first-passes (take 4 (rowsOf c f (insOf f) (dataOf f))) (drop 4 (rowsOf c [] (insOf f) (dataOf f))) ok (n .0, (n .1 .0, (n .1 .1 .0, (n .1 .1 .1 .0, tt))))) ∙ e
+
+-- GetFileSettings is refused at places 1 to 7 only
+pub settings-told : (c : Core) (f d : List ℕ) → NoReason (drop 7 (rowsOf c f getFileSettings d))
+unfolding rowsOf otherKindOrNever notGranted onFile switchedOff parameterCases outside ranged amountCases nothingPending pick
+settings-told c f d = (refl, (refl, (refl, (refl, (refl, (refl, tt))))))
 
 -- ---- place 12
 

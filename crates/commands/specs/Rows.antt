@@ -15,7 +15,7 @@ use Rattle.purse.specs.declared.Purse.{Purse}
 use Rattle.logbook.specs.Journal.{entrySize}
 use Rattle.access.specs.declared.Access.{Access}
 use Rattle.access.specs.Rights.{isNever, isNotGranted}
-use Rattle.columns.specs.Table.{readData, writeData, getValue, credit, debit, limitedCredit, readRecords, writeRecord, clearRecordFile, commitTransaction, abortTransaction, onData, onFile, ends, isFile, suits}
+use Rattle.columns.specs.Table.{readData, writeData, getValue, credit, debit, limitedCredit, readRecords, writeRecord, clearRecordFile, commitTransaction, abortTransaction, getFileSettings, onData, onFile, namesFile, ends, isFile, suits}
 use Rattle.frames.specs.Frame.{insOf, dataOf, fileOf, offsetOf, lengthOf, amountOf, optionOf, wrongSize, wrongClass, wrongParameters, wrongFrame}
 use Rattle.settings.specs.Settings.{accessTo}
 use Rattle.commands.specs.State.{Core, logPending}
@@ -24,7 +24,7 @@ use Rattle.commands.specs.State.{Core, logPending}
 
 -- INS not in the command table
 unfoldable pub unknownCommand : ℕ → Bool
-unknownCommand i = not (onFile i || ends i)
+unknownCommand i = not (namesFile i || ends i)
 
 -- data field of the wrong length; a write's length field is the number of bytes sent
 unfoldable pub lengthCases : ℕ → List ℕ → List Bool
@@ -40,6 +40,7 @@ lengthCases i d =
     ∷ (eqb i clearRecordFile && not (eqb (length d) 1))
     ∷ (eqb i commitTransaction && ltb 1 (length d))
     ∷ (eqb i abortTransaction && ltb 0 (length d))
+    ∷ (eqb i getFileSettings && not (eqb (length d) 1))
     ∷ []
 
 abbrev pub wrongLength : ℕ → List ℕ → Bool
@@ -47,7 +48,7 @@ wrongLength i d = any (lengthCases i d)
 
 -- file number not in the file table
 unfoldable pub unknownFile : ℕ → ℕ → Bool
-unknownFile i n = onFile i && not (isFile n)
+unknownFile i n = namesFile i && not (isFile n)
 
 -- file of another kind; or every condition that could grant the command is Fh
 unfoldable pub otherKindOrNever : ℕ → ℕ → Access → Bool

@@ -11,7 +11,7 @@ ghost use Rattle.commands.specs.Rows.{unknownCommand, wrongLength, unkno
 pub fn unknown_command(ins: u8) -> bool
     ensures { λ r. ⌜ r ≡ unknownCommand ins ⌝ }
 {
-    let file = columns::on_file(ins);
+    let file = columns::names_file(ins);
     let end = columns::ends_all(ins);
     !(file | end)
 }
@@ -33,12 +33,13 @@ pub fn wrong_length(ins: u8, d: &[u8]) -> bool
         | ((ins == table::CLEAR_RECORD_FILE) & (n != 1))
         | ((ins == table::COMMIT_TRANSACTION) & (1 < n))
         | ((ins == table::ABORT_TRANSACTION) & (0 < n))
+        | ((ins == table::GET_FILE_SETTINGS) & (n != 1))
 }
 
 pub fn unknown_file(ins: u8, n: u8) -> bool
     ensures { λ r. ⌜ r ≡ unknownFile ins n ⌝ }
 {
-    let file = columns::on_file(ins);
+    let file = columns::names_file(ins);
     let known = columns::is_file(n);
     file & !known
 }

@@ -2,6 +2,7 @@
 use Prim.Native.Nat.{ℕ}
 use mathlib.Core.List.{List, []}
 use lib.Dec.{eqb}
+use lib.ListN.{length}
 use mir.Syntax.{w32}
 use mir.Val.{ofZ}
 use Rattle.tables.specs.Choice.{pick}
@@ -12,8 +13,9 @@ use Rattle.purse.specs.declared.Purse.{Purse}
 use Rattle.purse.specs.Purse as purse
 use Rattle.logbook.specs.Journal.{Journal}
 use Rattle.logbook.specs.Journal as journal
-use Rattle.columns.specs.Table.{readData, writeData, getValue, credit, debit, limitedCredit, readRecords, writeRecord, clearRecordFile, commitTransaction, abortTransaction}
+use Rattle.columns.specs.Table.{readData, writeData, getValue, credit, debit, limitedCredit, readRecords, writeRecord, clearRecordFile, commitTransaction, abortTransaction, getFileSettings}
 use Rattle.frames.specs.Frame.{fileOf, offsetOf, lengthOf, bytesIn, amountOf}
+use Rattle.description.specs.Description.{described}
 use Rattle.commands.specs.State.{Core, State}
 
 -- the value file
@@ -52,10 +54,12 @@ changed s i d =
       files = filesAfter i d (s .files);
     }
 
--- the data of the reply: reads show committed figures only
+-- ---- the data of the reply: reads show committed figures only
+
 unfoldable pub shown : State → ℕ → List ℕ → List ℕ
 shown s i d =
     pick (eqb i readData) (files.shown (s .files) (fileOf d) (offsetOf d) (lengthOf d))
     (pick (eqb i getValue) (four (ofZ w32 (s .core .purse .value)))
     (pick (eqb i readRecords) (journal.shown (s .core .journal) (offsetOf d) (lengthOf d))
-    []))
+    (pick (eqb i getFileSettings) (described (s .core .settings) (s .core .purse .allowance) (length (s .core .journal .entries)) (fileOf d))
+    [])))

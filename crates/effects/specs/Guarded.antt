@@ -15,8 +15,10 @@ use Rattle.purse.specs.Purse as purse
 use Rattle.purse.specs.Guarded.{creditIn, debitIn, rebookIn}
 use Rattle.logbook.specs.declared.Log.{Log}
 use Rattle.logbook.specs.View as log
-use Rattle.columns.specs.Table.{readData, getValue, credit, debit, limitedCredit, readRecords, commitTransaction, abortTransaction}
+use Rattle.columns.specs.Table.{readData, getValue, credit, debit, limitedCredit, readRecords, commitTransaction, abortTransaction, getFileSettings}
 use Rattle.frames.specs.Frame.{fileOf, offsetOf, lengthOf, amountOf}
+use Rattle.settings.specs.declared.Settings.{Settings}
+use Rattle.description.specs.Description.{describedIn}
 
 unfoldable pub purseIn : Limits → ℕ → List ℕ → Purse → Purse
 purseIn l i d p =
@@ -31,9 +33,10 @@ purseIn l i d p =
 unfoldable pub valueIn : ℕ → ℤ → List ℕ
 valueIn room value = pick (ltb room 4) [] (four (ofZ w32 value))
 
-unfoldable pub shownIn : ℕ → Files → ℤ → Log → ℕ → List ℕ → List ℕ
-shownIn room f value l i d =
+unfoldable pub shownIn : ℕ → Settings → Files → Purse → Log → ℕ → List ℕ → List ℕ
+shownIn room s f p l i d =
     pick (eqb i readData) (files.shownIn room f (fileOf d) (offsetOf d) (lengthOf d))
-    (pick (eqb i getValue) (valueIn room value)
+    (pick (eqb i getValue) (valueIn room (p .value))
     (pick (eqb i readRecords) (log.shownIn room l (offsetOf d) (lengthOf d))
-    []))
+    (pick (eqb i getFileSettings) (describedIn room s (p .allowance) (l .count) (fileOf d))
+    [])))

@@ -10,7 +10,7 @@ use lib.ListN.{length}
 use mir.Syntax.{w32}
 use mir.Val.{ofZ}
 use native.Mathlib.Omega.{arith}
-use Rattle.tables.specs.Choice.{pick, none, picked, passed, pick-alike, pick-cases, or-none, or-no}
+use Rattle.tables.specs.Choice.{pick, none, picked, passed, pick-alike, pick-both, pick-cases, or-none, or-no}
 use Rattle.wire.specs.Bytes.{four, outsideOf}
 use Rattle.wire.specs.Laws.{length-four}
 use Rattle.datafiles.specs.Files as files
@@ -26,7 +26,9 @@ use Rattle.logbook.specs.View as log
 use Rattle.logbook.specs.Fit.{Fit}
 use Rattle.logbook.specs.FitLaws.{shown-room}
 use Rattle.frames.specs.Frame.{fileOf, offsetOf, lengthOf, amountOf}
-use Rattle.columns.specs.Table.{readData, getValue, credit, debit, limitedCredit, readRecords, shows}
+use Rattle.columns.specs.Table.{readData, getValue, credit, debit, limitedCredit, readRecords, getFileSettings, shows}
+use Rattle.description.specs.Description.{described, describedIn}
+use Rattle.description.specs.Laws.{described-small}
 use Rattle.commands.specs.State.{Core, State}
 use Rattle.commands.specs.Rows.{outside, ok, commandStatus}
 use Rattle.commands.specs.PlacesLaws.{entries-view}
@@ -89,7 +91,12 @@ module _ (room : ℕ) (s : State) (l : Log) (d : List ℕ) (j : s .core .journal
       let f = or-no (ltb 4 (l .count)) _ b .0 in
       rw j (passed _ _ (rw (r, f, o)))
 
-  pub shown-accepted : (i : ℕ) → commandStatus (s .core) i d ≡ ok → shownIn room (s .files) (s .core .purse .value) l i d ≡ shown s i d
+  settings-shown : describedIn room (s .core .settings) (s .core .purse .allowance) (l .count) (fileOf d)
+      ≡ described (s .core .settings) (s .core .purse .allowance) (length (s .core .journal .entries)) (fileOf d)
+  unfolding describedIn
+  settings-shown = rw (j, entries-view l) (passed _ _ (le-ltb room 17 (omega arith)))
+
+  pub shown-accepted : (i : ℕ) → commandStatus (s .core) i d ≡ ok → shownIn room (s .core .settings) (s .files) (s .core .purse) l i d ≡ shown s i d
   unfolding shownIn shown
   shown-accepted i e =
       let c = s .core in
@@ -97,7 +104,8 @@ module _ (room : ℕ) (s : State) (l : Log) (d : List ℕ) (j : s .core .journal
       pick-alike _ (λ t. data-shown (read-inside (c .settings .limits) (c .purse) _ d (at (c .settings .limits) (c .purse) _ d i readData o t)))
       (λ _. pick-alike _ (λ t. value-shown (c .purse .value))
       (λ _. pick-alike _ (λ t. entries-shown (entries-inside (c .settings .limits) (c .purse) _ d (at (c .settings .limits) (c .purse) _ d i readRecords o t)))
-      (λ _. refl)))
+      (λ _. pick-alike _ (λ t. settings-shown)
+      (λ _. refl))))
 
 -- a reply's data is at most a whole file
 pub shown-small : (s : State) (i : ℕ) (d : List ℕ) → Fit (s .core .journal) → commandStatus (s .core) i d ≡ ok → length (shown s i d) ≤ 256
@@ -109,7 +117,8 @@ shown-small s i d fit e =
     pick-cases (λ (x : List ℕ). length x ≤ 256) _ _ _ (λ t. datafiles.shown-small (s .files) _ _ _ (read-inside l (c .purse) _ d (at l (c .purse) _ d i readData o t)))
     (λ _. pick-cases (λ (x : List ℕ). length x ≤ 256) _ _ _ (λ t. omega (arith, length-four (ofZ w32 (c .purse .value))))
     (λ _. pick-cases (λ (x : List ℕ). length x ≤ 256) _ _ _ (λ t. omega (arith, shown-room (c .journal) (offsetOf d) (lengthOf d) fit))
-    (λ _. omega arith)))
+    (λ _. pick-cases (λ (x : List ℕ). length x ≤ 256) _ _ _ (λ t. omega (arith, described-small (c .settings) (c .purse .allowance) (length (c .journal .entries)) (fileOf d)))
+    (λ _. omega arith))))
 
 -- ---- what a command that shows changes, and what another shows: nothing
 
@@ -119,15 +128,16 @@ module _ (s : State) (d : List ℕ) where
 
   pub shows-changes-nothing : (i : ℕ) → shows i ≡ true → changed s i d ≡ s
   unfolding changed purseAfter journalAfter filesAfter pick
-  shows-changes-nothing i e = by (eqb i readData) (eqb i getValue) (eqb i readRecords) (by-one i readData refl) (by-one i getValue refl) (by-one i readRecords refl) e
+  shows-changes-nothing i e = by (eqb i readData) (eqb i getValue) (eqb i readRecords) (eqb i getFileSettings) (by-one i readData refl) (by-one i getValue refl) (by-one i readRecords refl) (by-one i getFileSettings refl) e
     where
-      by : (a b c : Bool) {P : Type 0} → (a ≡ true → P) → (b ≡ true → P) → (c ≡ true → P) → (a || b || c) ≡ true → P
-      by true b c p q r e = p refl
-      by false true c p q r e = q refl
-      by false false c p q r e = r e
+      by : (a b c d : Bool) {P : Type 0} → (a ≡ true → P) → (b ≡ true → P) → (c ≡ true → P) → (d ≡ true → P) → (a || b || c || d) ≡ true → P
+      by true b c d p q r s e = p refl
+      by false true c d p q r s e = q refl
+      by false false true d p q r s e = r refl
+      by false false false d p q r s e = s e
 
   pub quiet-shows-nothing : (i : ℕ) → shows i ≡ false → shown s i d ≡ []
   unfolding shown
   quiet-shows-nothing i e =
-      let n = none (eqb i readData ∷ eqb i getValue ∷ eqb i readRecords ∷ []) e in
-      passed _ _ (n .0) ∙ passed _ _ (n .1 .0) ∙ passed _ _ (n .1 .1 .0)
+      let n = none (eqb i readData ∷ eqb i getValue ∷ eqb i readRecords ∷ eqb i getFileSettings ∷ []) e in
+      passed _ _ (n .0) ∙ passed _ _ (n .1 .0) ∙ passed _ _ (n .1 .1 .0) ∙ passed _ _ (n .1 .1 .1 .0)

@@ -4,9 +4,10 @@ use datafiles::Files;
 use limits::Limits;
 use logbook::Log;
 use purse::Purse;
+use settings::Settings;
 ghost use mathlib.Core.Path.{_≡_};
 ghost use lib.ListN.{length};
-ghost use Rattle.wire.specs.Bytes.{Shows, four};
+ghost use Rattle.wire.specs.Bytes.{Shows};
 ghost use Rattle.logbook.specs.View.{view, put};
 ghost use Rattle.effects.specs.Effects.{journalAfter, filesAfter};
 ghost use Rattle.effects.specs.Guarded.{purseIn, valueIn, shownIn};
@@ -76,8 +77,16 @@ fn show_value(value: i32, reply: &mut [u8]) -> usize
 }
 
 // Lays what the command shows over the front of reply, and answers its length.
-pub fn show(files: Files, value: i32, log: Log, ins: u8, d: &[u8], reply: &mut [u8]) -> usize
-    ensures { λ r. ⌜ Shows (shownIn (length (now (reply .entry))) files value log ins (now (d .entry))) (now (reply .entry)) (now (reply .exit)) r ⌝ }
+pub fn show(
+    settings: Settings,
+    files: Files,
+    purse: Purse,
+    log: Log,
+    ins: u8,
+    d: &[u8],
+    reply: &mut [u8],
+) -> usize
+    ensures { λ r. ⌜ Shows (shownIn (length (now (reply .entry))) settings files purse log ins (now (d .entry))) (now (reply .entry)) (now (reply .exit)) r ⌝ }
 {
     if ins == table::READ_DATA {
         return files.show(
@@ -88,10 +97,19 @@ pub fn show(files: Files, value: i32, log: Log, ins: u8, d: &[u8], reply: &mut [
         );
     }
     if ins == table::GET_VALUE {
-        return show_value(value, reply);
+        return show_value(purse.value, reply);
     }
     if ins == table::READ_RECORDS {
         return log.show(wire::le3_at(d, 1), wire::le3_at(d, 4), reply);
+    }
+    if ins == table::GET_FILE_SETTINGS {
+        return description::show(
+            settings,
+            purse.allowance,
+            log.count,
+            wire::byte_at(d, 0),
+            reply,
+        );
     }
     0
 }

@@ -22,7 +22,7 @@ pub struct Settings {
 
 impl Settings {
     // The rights of file n.
-    fn rights(self, n: u8) -> u16
+    pub fn rights(self, n: u8) -> u16
         ensures { λ r. ⌜ r ≡ rightsOf self n ⌝ }
     {
         if n == Files::DATA_00 {

@@ -49,6 +49,10 @@ shows-part x b after a e h k q =
     let l = length-part x a e h in
     (q ∙ laid-room b 0 (part x a e) (omega arith), sym l)
 
+-- a whole list of n elements, where there is room
+pub shows-whole : (x b after : List ℕ) (n : ℕ) → length x ≡ n → n ≤ length b → after ≡ laidIn b 0 x → Shows x b after n
+shows-whole x b after n l h q = (q ∙ laid-room b 0 x (omega arith), sym l)
+
 pub shows-none : (b : List ℕ) → Shows [] b b 0
 shows-none b = (laid-none b, refl)
 

@@ -1,4 +1,6 @@
 use mir.Facts.{toZ-ofZ}
+use mir.Val.{SFits}
+use mir.Syntax.{w32}
 use Rattle.effects.specs.Guarded.{shownIn}
 use Rattle.datafiles.specs.Files as files
 use Rattle.wire.specs.Laws.{shows-as, shows-none}
@@ -39,7 +41,8 @@ returns-2 : tie.Need-returns-2
 unfolding shownIn
 returns-2 c =
     let s = c .before .before in
-    shows-as _ _ _ _ _ (search order) (simp (toZ-ofZ (s .before .before .before .before .before .before .fits .value)) at (s .show-value .ensures))
+    let f : SFits w32 (s .before .before .before .before .before .before .before .args .purse .value) = search needs in
+    shows-as _ _ _ _ _ (search order) (simp (toZ-ofZ f) at (s .show-value .ensures))
 
 le3-at-requires-3 : tie.Need-le3-at-requires-3
 le3-at-requires-3 c κs = tt
@@ -60,9 +63,24 @@ returns-3 c =
     let l = s .before .before in
     shows-as _ _ _ _ _ (search order) (simp (l .le3-at4 .ensures, l .before .le3-at3 .ensures) at (s .show2 .ensures))
 
+byte-at-requires-2 : tie.Need-byte-at-requires-2
+byte-at-requires-2 c κs = tt
+
+show-requires-3 : tie.Need-show-requires-3
+show-requires-3 c κs = tt
+
+same-length-4 : tie.Need-same-length-4
+same-length-4 c = search needs
+
 returns-4 : tie.Need-returns-4
 unfolding shownIn
-returns-4 c = shows-as _ _ _ _ _ (search order) (shows-none _)
+returns-4 c =
+    let s = c .before .before in
+    shows-as _ _ _ _ _ (search order depth 7) (simp (s .before .before .byte-at2 .ensures) at (s .show3 .ensures))
+
+returns-5 : tie.Need-returns-5
+unfolding shownIn
+returns-5 c = shows-as _ _ _ _ _ (search order depth 7) (shows-none _)
 
 pub show-spec : {M : Type 1} → statement M
 show-spec =
@@ -82,4 +100,8 @@ show-spec =
     show-requires-2
     same-length-3
     returns-3
-    returns-4)
+    byte-at-requires-2
+    show-requires-3
+    same-length-4
+    returns-4
+    returns-5)

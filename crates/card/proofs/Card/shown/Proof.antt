@@ -1,8 +1,5 @@
 use mathlib.Core.List.{List}
 use Prim.Native.Nat.{ℕ, _≤_}
-use mir.Val.{toZ, ofZ, SFits}
-use mir.Facts.{toZ-ofZ}
-use mir.Syntax.{w32}
 use lib.ListN.{length}
 use denote.Ref.{now}
 use native.Mathlib.Omega.{arith}
@@ -18,15 +15,14 @@ use Rattle.card.proofs.Card.shown.Tie as tie
 
 -- what is laid first is the command's data, at most 256 bytes
 laid-first : (s : tie.Start) (after : List ℕ) (n : ℕ)
-    → Shows (shownIn (length (now (s .args .reply))) (s .args .self .files) (toZ w32 (ofZ w32 (s .args .self .purse .value))) (s .args .self .log) (s .args .ins) (now (s .args .d))) (now (s .args .reply)) after n
+    → Shows (shownIn (length (now (s .args .reply))) (s .args .self .settings) (s .args .self .files) (s .args .self .purse) (s .args .self .log) (s .args .ins) (now (s .args .d))) (now (s .args .reply)) after n
     → Shows (shown (view (s .args .self)) (s .args .ins) (now (s .args .d))) (now (s .args .reply)) after n × (n ≤ 256)
 laid-first s after n h =
     let a = s .args in
-    let f : SFits w32 (a .self .purse .value) = search needs in
     let slots : length (a .self .log .slots) ≡ 64 = search needs in
     let g = s .good .0 .1 .1 .1 .1 .1 .0 in
     let entry : length (a .self .log .entry) ≡ 16 = search needs in
-    accepted-shows (a .self) (a .ins) (now (a .d)) (now (a .reply)) after n (s .pre .1) (s .pre .2) (s .pre .3) slots entry (rw (toZ-ofZ f) at h)
+    accepted-shows (a .self) (a .ins) (now (a .d)) (now (a .reply)) after n (s .pre .1) (s .pre .2) (s .pre .3) slots entry h
 
 show-requires : tie.Need-show-requires
 show-requires c κs = tt
@@ -40,8 +36,8 @@ slice-aggregate-lay c = search needs
 lay-requires : tie.Need-lay-requires
 lay-requires c κs = tt
 
-add-t18 : tie.Need-add-t18
-add-t18 c = let s = laid-first (c .before .before .before .before .before .before .before .before .before .before .before .before .before .before .before .before) _ _ (c .before .before .before .before .before .before .before .before .show .ensures) in record { fits = omega arith }
+add-t19 : tie.Need-add-t19
+add-t19 c = let s = laid-first (c .before .before .before .before .before .before .before .before .before .before .before .before .before .before .before .before) _ _ (c .before .before .before .before .before .before .before .before .show .ensures) in record { fits = omega arith }
 
 same-length : tie.Need-same-length
 same-length c = search needs
@@ -61,6 +57,6 @@ shown-spec =
     word-of-requires
     slice-aggregate-lay
     lay-requires
-    add-t18
+    add-t19
     same-length
     returns)

@@ -1,0 +1,44 @@
+-- What GetFileSettings shows; figures go least significant byte first.
+use Prim.Native.Nat.{ℕ, _+_}
+use mathlib.Core.List.{List, [], _∷_, _++_}
+use lib.Dec.{eqb, ltb}
+use mir.Syntax.{w32}
+use mir.Val.{ofZ}
+use Rattle.tables.specs.Choice.{pick}
+use Rattle.wire.specs.Bytes.{two, three, four}
+use Rattle.datafiles.specs.Files.{sizeOf}
+use Rattle.logbook.specs.Journal.{entrySize, mostEntries}
+use Rattle.columns.specs.Table.{isData, value03}
+use Rattle.settings.specs.declared.Settings.{Settings}
+use Rattle.settings.specs.Settings.{rightsOf}
+
+-- file kind, option byte 00h and rights
+unfoldable pub headOf : ℕ → ℕ → List ℕ
+headOf kind rights = kind ∷ 0x00 ∷ two rights
+
+-- then the size for data
+unfoldable pub ofData : ℕ → ℕ → List ℕ
+ofData rights size = headOf 0x00 rights ++ three size
+
+-- lower limit, upper limit, committed allowance and the byte of switches for value
+unfoldable pub ofValue : ℕ → ℕ → ℕ → ℕ → ℕ → List ℕ
+ofValue rights lower upper allowance switches = headOf 0x02 rights ++ four lower ++ four upper ++ four allowance ++ (switches ∷ [])
+
+-- entry size, largest and committed number of entries for the log
+unfoldable pub ofLog : ℕ → ℕ → ℕ → ℕ → List ℕ
+ofLog rights size most entries = headOf 0x04 rights ++ three size ++ three most ++ three entries
+
+-- the switches: bit 0 LimitedCredit on, bit 1 free GetValue
+unfoldable pub switchesOf : Settings → ℕ
+switchesOf s = pick (s .limited) 1 0 + pick (s .free) 2 0
+
+-- file n by its kind, with the committed allowance and the committed number of entries
+unfoldable pub described : Settings → ℕ → ℕ → ℕ → List ℕ
+described s allowance entries n =
+    pick (isData n) (ofData (rightsOf s n) (sizeOf n))
+    (pick (eqb n value03) (ofValue (rightsOf s n) (ofZ w32 (s .limits .lower)) (ofZ w32 (s .limits .upper)) allowance (switchesOf s))
+    (ofLog (rightsOf s n) entrySize mostEntries entries))
+
+-- in a buffer of this room
+unfoldable pub describedIn : ℕ → Settings → ℕ → ℕ → ℕ → List ℕ
+describedIn room s allowance entries n = pick (ltb room 17) [] (described s allowance entries n)
