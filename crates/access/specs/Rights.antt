@@ -6,7 +6,7 @@ use Rattle.tables.specs.Choice.{pick}
 use Rattle.access.specs.declared.Session.{Session}
 use Rattle.access.specs.declared.Session.the-variants.{Nobody, Key}
 use Rattle.access.specs.declared.Access.{Access}
-use Rattle.access.specs.declared.Access.the-variants.{Never, NotGranted, Granted}
+use Rattle.access.specs.declared.Access.the-variants.{Never, NotGranted, FreeOnly, ByKey}
 
 abbrev pub free : ℕ
 free = 0xE
@@ -53,16 +53,17 @@ sessionSound (Key k) = leb k 4
 unfoldable pub sealed : ℕ → Bool → Bool → Bool
 sealed x byRead byWrite = (not byRead || eqb (readOf x) never) && (not byWrite || eqb (writeOf x) never) && eqb (readWriteOf x) never
 
--- a condition is free or equals the session key
-unfoldable pub opens : Session → ℕ → Bool
-opens s n = eqb n free || eqb n (keyOf s)
+-- a condition that could grant is k
+unfoldable pub granting : ℕ → ℕ → Bool → Bool → Bool
+granting k x byRead byWrite = (byRead && eqb (readOf x) k) || (byWrite && eqb (writeOf x) k) || eqb (readWriteOf x) k
 
-unfoldable pub granted : ℕ → Session → Bool → Bool → Bool
-granted x s byRead byWrite = (byRead && opens s (readOf x)) || (byWrite && opens s (writeOf x)) || opens s (readWriteOf x)
-
--- always: the command is granted whatever the session is, unless sealed
+-- never; by the session's key; by a free condition only, where freely is one more; or not at all
 unfoldable pub accessOf : ℕ → Session → Bool → Bool → Bool → Access
-accessOf x s byRead byWrite always = pick (sealed x byRead byWrite) Never (pick (always || granted x s byRead byWrite) Granted NotGranted)
+accessOf x s byRead byWrite freely =
+    pick (sealed x byRead byWrite) Never
+    (pick (granting (keyOf s) x byRead byWrite) ByKey
+    (pick (freely || granting free x byRead byWrite) FreeOnly
+    NotGranted))
 
 -- ---- what each answer says of places 8 and 9
 
@@ -70,7 +71,8 @@ accessOf x s byRead byWrite always = pick (sealed x byRead byWrite) Never (pick 
 abbrev pub accessStatus : Access → ℕ
 accessStatus Never = 0x919D
 accessStatus NotGranted = 0x91AE
-accessStatus Granted = 0x9100
+accessStatus FreeOnly = 0x9100
+accessStatus ByKey = 0x9100
 
 abbrev pub isNever : Access → Bool
 isNever a = eqb (accessStatus a) 0x919D

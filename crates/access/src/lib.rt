@@ -1,17 +1,19 @@
 // Access rights, the session, and the access decision.
 ghost use mathlib.Core.Path.{_≡_};
 ghost use mathlib.Core.Bool.{_&&_};
-ghost use Rattle.access.specs.Rights.{readOf, writeOf, readWriteOf, changeOf, nibbleSound, rightsSound, keyOf, sessionSound, sealed, opens, granted, accessOf, isNever, isNotGranted};
+ghost use Rattle.access.specs.Rights.{readOf, writeOf, readWriteOf, changeOf, nibbleSound, rightsSound, keyOf, sessionSound, sealed, granting, accessOf, isNever, isNotGranted};
 
 pub enum Session {
     Nobody,
     Key(u8),
 }
 
+// The access decision's answers; a free condition and the session's key both granting counts as the key.
 pub enum Access {
     Never,
     NotGranted,
-    Granted,
+    FreeOnly,
+    ByKey,
 }
 
 fn read_of(x: u16) -> u8
@@ -79,26 +81,31 @@ fn is_sealed(x: u16, by_read: bool, by_write: bool) -> bool
     (!by_read | (r == 0xF)) & (!by_write | (w == 0xF)) & (rw == 0xF)
 }
 
-fn is_granted(x: u16, session: Session, by_read: bool, by_write: bool) -> bool
-    ensures { λ r. ⌜ r ≡ granted x session «by_read» «by_write» ⌝ }
+// Whether a condition that could grant the command is k.
+fn is_granting(k: u8, x: u16, by_read: bool, by_write: bool) -> bool
+    ensures { λ r. ⌜ r ≡ granting k x «by_read» «by_write» ⌝ }
 {
-    let r = session.opens(read_of(x));
-    let w = session.opens(write_of(x));
-    let rw = session.opens(read_write_of(x));
-    (by_read & r) | (by_write & w) | rw
+    let r = read_of(x);
+    let w = write_of(x);
+    let rw = read_write_of(x);
+    (by_read & (r == k)) | (by_write & (w == k)) | (rw == k)
 }
 
-// Whether a command is granted on a file: by Read if by_read, by Write if by_write, by ReadWrite, or always.
-pub fn decide(x: u16, session: Session, by_read: bool, by_write: bool, always: bool) -> Access
-    ensures { λ r. ⌜ r ≡ accessOf x session «by_read» «by_write» always ⌝ }
+// Whether a command is granted on a file, and through which door: by Read if by_read, by Write if by_write, by ReadWrite, or freely.
+pub fn decide(x: u16, session: Session, by_read: bool, by_write: bool, freely: bool) -> Access
+    ensures { λ r. ⌜ r ≡ accessOf x session «by_read» «by_write» freely ⌝ }
 {
     let sealed = is_sealed(x, by_read, by_write);
     if sealed {
         return Access::Never;
     }
-    let granted = is_granted(x, session, by_read, by_write);
-    if always | granted {
-        return Access::Granted;
+    let key = is_granting(session.key(), x, by_read, by_write);
+    if key {
+        return Access::ByKey;
+    }
+    let free = is_granting(0xE, x, by_read, by_write);
+    if freely | free {
+        return Access::FreeOnly;
     }
     Access::NotGranted
 }
@@ -111,13 +118,6 @@ impl Session {
             Session::Nobody => 16,
             Session::Key(k) => k,
         }
-    }
-
-    fn opens(self, nibble: u8) -> bool
-        ensures { λ r. ⌜ r ≡ opens self nibble ⌝ }
-    {
-        let key = self.key();
-        (nibble == 0xE) | (nibble == key)
     }
 
     // Whether there is no session, or one with a key 0 to 4.
@@ -138,7 +138,8 @@ impl Access {
         match self {
             Access::Never => true,
             Access::NotGranted => false,
-            Access::Granted => false,
+            Access::FreeOnly => false,
+            Access::ByKey => false,
         }
     }
 
@@ -148,7 +149,8 @@ impl Access {
         match self {
             Access::Never => false,
             Access::NotGranted => true,
-            Access::Granted => false,
+            Access::FreeOnly => false,
+            Access::ByKey => false,
         }
     }
 }

@@ -53,9 +53,13 @@ refused s status = record { state = ended s; out = word status }
 unfoldable pub accepted : State → ℕ → List ℕ → Played
 accepted s i d = record { state = changed s i d; out = shown s i d ++ word ok }
 
+-- by its status
+abbrev pub playedBy : ℕ → State → List ℕ → Played
+playedBy status s f = pick (eqb status ok) (accepted s (insOf f) (dataOf f)) (refused s status)
+
 -- refused with the status of the first reason that applies, accepted where none does
 unfoldable pub played : State → List ℕ → Played
-played s f = pick (eqb (statusOf (s .core) f) ok) (accepted s (insOf f) (dataOf f)) (refused s (statusOf (s .core) f))
+played s f = playedBy (statusOf (s .core) f) s f
 
 -- the card that the played state is laid into
 unfoldable pub laidInto : Card → Played → Outcome
@@ -65,9 +69,13 @@ laidInto c p = record { card = put c (p .state); refusal = 0; out = p .out }
 abbrev pub replyRoom : ℕ
 replyRoom = 258
 
+-- a reply buffer of room bytes, and what is played where there is no bench refusal
+abbrev pub benched : Card → ℕ → Played → Outcome
+benched c room p = pick (ltb room replyRoom) (bench c 5) (pick (broken c) (bench c 6) (laidInto c p))
+
 -- the frame f with a reply buffer of room bytes
 unfoldable pub commanded : Card → List ℕ → ℕ → Outcome
-commanded c f room = pick (ltb room replyRoom) (bench c 5) (pick (broken c) (bench c 6) (laidInto c (played (view c) f)))
+commanded c f room = benched c room (played (view c) f)
 
 -- ---- a session change leaves pending work in place
 

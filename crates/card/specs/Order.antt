@@ -2,16 +2,23 @@
 use Prim.Native.Nat.{ℕ}
 use mathlib.Core.Bool.{Bool}
 use mathlib.Core.List.{List, [], _∷_}
-use mathlib.Core.Path.{_≡_, refl, sym, _∙_}
+use mathlib.Core.Path.{_≡_, refl, sym, ap, _∙_}
+use borrow.Author.Tests.{eq-eqb, ne-eqb}
+use lib.Dec.{eqb}
 use lib.ListN.{drop}
+use Rattle.tables.specs.Choice.{pick, hit, skip}
 use Rattle.tables.specs.Reasons.{Reason, _when_, first, no-reason, first-refuses, first-passes}
 use Rattle.frames.specs.declared.Faults.{Faults}
 use Rattle.frames.specs.Faults.{faultsOf}
-use Rattle.frames.specs.Frame.{insOf, dataOf, wrongSize, wrongClass, wrongParameters, wrongFrame}
+use Rattle.frames.specs.Frame.{insOf, dataOf, fileOf, wrongSize, wrongClass, wrongParameters, wrongFrame}
+use Rattle.access.specs.declared.Access.{Access}
+use Rattle.access.specs.declared.Access.the-variants.{NotGranted}
+use Rattle.settings.specs.Settings.{accessTo}
 use Rattle.commands.specs.declared.Places.{Places}
 use Rattle.commands.specs.State.{Core}
 use Rattle.commands.specs.Places.{placesOf}
 use Rattle.commands.specs.Rows.{rowsOf, ok, statusOf, commandStatus}
+use Rattle.card.specs.declared.Checked.{Checked}
 
 -- places 1 to 4
 abbrev pub framePart : Bool → Bool → Bool → Bool → List Reason
@@ -43,6 +50,16 @@ command-by : (c : Core) (i : ℕ) (d : List ℕ) {r : ℕ} {p : Places} → p �
 unfolding commandStatus rowsOf commandOrder placesOf
 command-by c i d e q = rw e at q
 
+-- what access answered to a frame; one that is refused at places 1 to 4 asks for no file
+unfoldable pub accessFor : Core → List ℕ → Access
+accessFor c f =
+    pick (eqb (frameOrder (wrongSize f) (wrongClass f) (wrongParameters f) (wrongFrame f)) ok)
+    (accessTo (c .settings) (c .session) (insOf f) (fileOf (dataOf f)))
+    NotGranted
+
+unfoldable pub checkedOf : Core → List ℕ → Checked
+checkedOf c f = record { status = statusOf c f; access = accessFor c f }
+
 module _ (c : Core) (f : List ℕ) where
   frames : List Reason
   frames = framePart (wrongSize f) (wrongClass f) (wrongParameters f) (wrongFrame f)
@@ -53,10 +70,25 @@ module _ (c : Core) (f : List ℕ) where
     unfolding frameOrder faultsOf frames
     by-frame = rw ev at e
 
-    pub frame-refuses : (s ≡ ok → ⊥) → s ≡ statusOf c f
+    frame-refuses : (s ≡ ok → ⊥) → s ≡ statusOf c f
     unfolding statusOf rowsOf frames
     frame-refuses n = by-frame ∙ first-refuses frames (drop 4 (rowsOf c [] (insOf f) (dataOf f))) ok (λ q. n (by-frame ∙ q))
 
-    pub frame-passes : {r i : ℕ} {d : List ℕ} {p : Places} → s ≡ ok → i ≡ insOf f → d ≡ dataOf f → p ≡ placesOf c i d → r ≡ inOrder p → r ≡ statusOf c f
+    frame-passes : {r i : ℕ} {d : List ℕ} {p : Places} → s ≡ ok → i ≡ insOf f → d ≡ dataOf f → p ≡ placesOf c i d → r ≡ inOrder p → r ≡ statusOf c f
     unfolding statusOf commandStatus rowsOf frames
     frame-passes z ei ed k q = command-by c _ _ k q ∙ rw (ei, ed) (sym (first-passes frames (drop 4 (rowsOf c [] (insOf f) (dataOf f))) ok (no-reason frames ok refl (sym by-frame ∙ z))))
+
+    pub frame-refused : (s ≡ ok → ⊥) → record { status = s; access = NotGranted } ≡ checkedOf c f
+    unfolding checkedOf accessFor frameOrder frames
+    frame-refused n = λ i. record { status = frame-refuses n i; access = skip _ (accessTo (c .settings) (c .session) (insOf f) (fileOf (dataOf f))) NotGranted (ne-eqb (first frames ok) ok (λ q. n (by-frame ∙ q))) refl i }
+
+    pub frame-passed : {r i : ℕ} {d : List ℕ} {p : Places} → s ≡ ok → i ≡ insOf f → d ≡ dataOf f → p ≡ placesOf c i d → r ≡ inOrder p
+        → record { status = r; access = p .access } ≡ checkedOf c f
+    unfolding checkedOf accessFor frameOrder frames placesOf
+    frame-passed {p = p} z ei ed k q =
+        let a : p .access ≡ accessTo (c .settings) (c .session) (insOf f) (fileOf (dataOf f)) = rw (k, ei, ed) refl in
+        λ j. record { status = frame-passes z ei ed k q j; access = hit _ _ NotGranted (eq-eqb (first frames ok) ok (sym by-frame ∙ z)) a j }
+
+  pub status-told : {r : Checked} → r ≡ checkedOf c f → r .status ≡ statusOf c f
+  unfolding checkedOf
+  status-told e = ap (λ (r : Checked). r .status) e

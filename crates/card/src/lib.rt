@@ -1,4 +1,5 @@
 // The card: personalisation, and the three events command, session change and power-up.
+use access::Access;
 use access::Session;
 use columns::table;
 use commands::Places;
@@ -12,7 +13,7 @@ ghost use mathlib.Core.Path.{_≡_};
 ghost use mathlib.Core.Bool.{true, false};
 ghost use Prim.Native.Nat.{_≤_};
 ghost use lib.ListN.{length};
-ghost use Rattle.commands.specs.Rows.{statusOf, commandStatus, ok};
+ghost use Rattle.commands.specs.Rows.{commandStatus, ok};
 ghost use Rattle.wire.specs.Bytes.{laidIn, word};
 ghost use Rattle.columns.specs.Table.{writeData, shows};
 ghost use Rattle.effects.specs.Effects.{changed};
@@ -20,7 +21,7 @@ ghost use Rattle.card.specs.View.{coreOf, view, put};
 ghost use Rattle.card.specs.Rules.{brokenBy, broken};
 ghost use Rattle.card.specs.Outcome.{replyOf, Answered};
 ghost use Rattle.card.specs.Events.{ended, accepted, laidInto, replyRoom, commanded, sessionChanged, poweredUp, issued, blank, orderRefusal, personalised};
-ghost use Rattle.card.specs.Order.{frameOrder, commandOrder};
+ghost use Rattle.card.specs.Order.{frameOrder, commandOrder, checkedOf};
 
 pub struct Card {
     pub settings: Settings,
@@ -35,6 +36,12 @@ pub struct Reply {
     pub card: Card,
     pub refusal: u8,
     pub len: usize,
+}
+
+// What the order of checks leaves: the status, and what the access decision answered, for the making of the reply.
+struct Checked {
+    status: u16,
+    access: Access,
 }
 
 impl Card {
@@ -133,19 +140,28 @@ impl Card {
         Card::OK
     }
 
-    // The status of a frame.
-    fn status(settings: Settings, purse: Purse, log: Log, session: Session, frame: &[u8]) -> u16
-        ensures { λ r. ⌜ r ≡ statusOf (coreOf settings purse log session) (now (frame .entry)) ⌝ }
+    // A frame through the order of checks.
+    fn checked(
+        settings: Settings,
+        purse: Purse,
+        log: Log,
+        session: Session,
+        frame: &[u8],
+    ) -> Checked
+        ensures { λ r. ⌜ r ≡ checkedOf (coreOf settings purse log session) (now (frame .entry)) ⌝ }
     {
         let f = Faults::asked(frame);
         let s = Card::frame_order(f.size, f.class, f.parameters, f.frame);
         if s != Card::OK {
-            return s;
+            return Checked {
+                status: s,
+                access: Access::NotGranted,
+            };
         }
         let ins = wire::byte_at(frame, 1);
         let d = frames::data(frame);
         let p = Places::asked(settings, purse, log, session, ins, d);
-        Card::command_order(
+        let status = Card::command_order(
             p.command,
             p.length,
             p.file,
@@ -155,8 +171,11 @@ impl Card {
             p.value,
             p.range,
             p.nothing,
-        )
+        );
+        let access = p.access;
+        Checked { status, access }
     }
+
     // Whether a standing rule is broken.
     fn breaks(settings: Settings, purse: Purse, log: Log, session: Session) -> bool
         ensures { λ r. ⌜ r ≡ brokenBy settings purse log session ⌝ }
@@ -255,7 +274,8 @@ impl Card {
                 len: 0,
             };
         }
-        let status = Card::status(settings, purse, log, session, frame);
+        let checked = Card::checked(settings, purse, log, session, frame);
+        let status = checked.status;
         if status != Card::OK {
             Card::put_status(status, reply);
             let card = self.ended();

@@ -3,3 +3,4 @@ pub mod Rows
 pub mod Places
 pub mod Laws
 pub mod PlacesLaws
+pub mod Doors

@@ -1,4 +1,4 @@
--- Which of places 5 to 13 apply, as the code asks them: the tests of the table's rows, one by one.
+-- Which of places 5 to 13 apply, as the code asks them: the tests of the table's rows, one by one, and what access answered.
 use Prim.Native.Nat.{ℕ}
 use mathlib.Core.List.{List}
 use lib.ListN.{length}
@@ -20,4 +20,5 @@ placesOf c i d =
       value = badParameter i d;
       range = outside (c .settings .limits) (c .purse) (length (c .journal .entries)) i d;
       nothing = nothingPending i (c .purse .moved) (logPending (c .journal));
+      access = accessTo (c .settings) (c .session) i (fileOf d);
     }

@@ -37,7 +37,7 @@ pub asked-by : (s : Settings) (p : Purse) (l : Log) (k : Session) (i : ℕ) (d :
     → n ≡ fileOf d → a ≡ accessTo s k i n → v1 ≡ unknownCommand i → v2 ≡ wrongLength i d → v3 ≡ unknownFile i n → v4 ≡ otherKindOrNever i n a
     → v5 ≡ notGranted i a → v6 ≡ switchedOff i (s .limited) (l .clears) → v7 ≡ badParameter i d → v8 ≡ outside (s .limits) p (l .count) i d
     → v9 ≡ nothingPending i (p .moved) (l .adds || l .clears)
-    → record { command = v1; length = v2; file = v3; kind = v4; grant = v5; off = v6; value = v7; range = v8; nothing = v9 }
+    → record { command = v1; length = v2; file = v3; kind = v4; grant = v5; off = v6; value = v7; range = v8; nothing = v9; access = a }
     ≡ placesOf (record { settings = s; purse = p; journal = log.view l; session = k }) i d
 unfolding placesOf
 asked-by s p l k i d en ea e1 e2 e3 e4 e5 e6 e7 e8 e9 =

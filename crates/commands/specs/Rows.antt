@@ -103,9 +103,9 @@ nothingPending i value log = ends i && not (value || log)
 
 -- ---- the table
 
--- places 1 to 13: the frame f, with the INS i and the data field d
-unfoldable pub rowsOf : Core → List ℕ → ℕ → List ℕ → List Reason
-rowsOf c f i d =
+-- places 1 to 13: the frame f, with the INS i and the data field d, where access to the file is a
+abbrev pub rowsUnder : Access → Core → List ℕ → ℕ → List ℕ → List Reason
+rowsUnder a c f i d =
     (0x6700 when wrongSize f)
     ∷ (0x6E00 when wrongClass f)
     ∷ (0x6A86 when wrongParameters f)
@@ -113,13 +113,16 @@ rowsOf c f i d =
     ∷ (0x911C when unknownCommand i)
     ∷ (0x917E when wrongLength i d)
     ∷ (0x91F0 when unknownFile i (fileOf d))
-    ∷ (0x919D when otherKindOrNever i (fileOf d) (accessTo (c .settings) (c .session) i (fileOf d)))
-    ∷ (0x91AE when notGranted i (accessTo (c .settings) (c .session) i (fileOf d)))
+    ∷ (0x919D when otherKindOrNever i (fileOf d) a)
+    ∷ (0x91AE when notGranted i a)
     ∷ (0x919D when switchedOff i (c .settings .limited) (c .journal .clears))
     ∷ (0x919E when badParameter i d)
     ∷ (0x91BE when outside (c .settings .limits) (c .purse) (length (c .journal .entries)) i d)
     ∷ (0x910C when nothingPending i (c .purse .moved) (logPending (c .journal)))
     ∷ []
+
+unfoldable pub rowsOf : Core → List ℕ → ℕ → List ℕ → List Reason
+rowsOf c f i d = rowsUnder (accessTo (c .settings) (c .session) i (fileOf d)) c f i d
 
 -- the status of an accepted command
 abbrev pub ok : ℕ

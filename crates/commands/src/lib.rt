@@ -1,6 +1,7 @@
 // Places 5 to 13 of the order of checks.
 mod rows;
 
+use access::Access;
 use access::Session;
 use logbook::Log;
 use purse::Purse;
@@ -9,7 +10,7 @@ ghost use mathlib.Core.Path.{_≡_};
 ghost use Rattle.logbook.specs.View.{view};
 ghost use Rattle.commands.specs.Places.{placesOf};
 
-// Which of the places apply, in their order.
+// Which of the places apply, in their order, and what the access decision answered: an accepted command carries it on.
 pub struct Places {
     pub command: bool,
     pub length: bool,
@@ -20,6 +21,7 @@ pub struct Places {
     pub value: bool,
     pub range: bool,
     pub nothing: bool,
+    pub access: Access,
 }
 
 impl Places {
@@ -46,6 +48,7 @@ impl Places {
             value: rows::bad_parameter(ins, d),
             range: rows::is_outside(settings.limits, purse, log.count, ins, d),
             nothing: rows::nothing_pending(ins, purse.moved, log.adds | log.clears),
+            access,
         }
     }
 }

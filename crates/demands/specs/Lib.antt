@@ -7,4 +7,5 @@ pub mod Demands
 pub mod Examples
 pub mod Laws
 pub mod Proofs
+pub mod Doors
 pub mod Unseen

@@ -12,7 +12,7 @@ use Rattle.purse.specs.Purse as purse
 use Rattle.purse.specs.Rules as figures
 use Rattle.logbook.specs.Journal as journal
 use Rattle.logbook.specs.View as log
-use Rattle.access.specs.Rights.{rightsSound, sealed, opens, granted, accessOf}
+use Rattle.access.specs.Rights.{rightsSound, sealed, granting, accessOf}
 use Rattle.frames.specs.Frame.{wrongSize, wrongClass, wrongParameters, wrongFrame}
 use Rattle.settings.specs.declared.Settings.{Settings}
 use Rattle.columns.specs.Table.{onFile, namesFile, isFile, suits}
@@ -140,5 +140,5 @@ pub expected : Edge → Seen
 expected e = record { replies = e .replies; entries = e .entries }
 
 pub edges-answered : map answered edges ≡ map expected edges
-unfolding answered expected edges played-on settings pick laid laidIn outsideOf le3 le4 four word files.sizeOf files.bytesOf files.zeros files.endOf files.shown files.written crossed within purse.resting purse.credited purse.debited purse.rebooked purse.settled purse.dropped figures.unequal figures.broken journal.blank journal.joined journal.shown journal.freshOr journal.written journal.cleared journal.pushed journal.resting journal.settled journal.dropped log.cut log.view log.some log.put log.broken log.empty rightsSound sealed opens granted accessOf wrongSize wrongClass wrongParameters wrongFrame onFile namesFile isFile suits rightsOf accessTo logPending rightsBroken unknownCommand lengthCases unknownFile otherKindOrNever notGranted switchedOff parameterCases ranged roomOf amountCases outside nothingPending rowsOf statusOf purseAfter journalAfter filesAfter changed shown view put brokenBy bench ended refused accepted played laidInto commanded issued blankSettings blank orderRefusal personalised
+unfolding answered expected edges played-on settings pick laid laidIn outsideOf le3 le4 four word files.sizeOf files.bytesOf files.zeros files.endOf files.shown files.written crossed within purse.resting purse.credited purse.debited purse.rebooked purse.settled purse.dropped figures.unequal figures.broken journal.blank journal.joined journal.shown journal.freshOr journal.written journal.cleared journal.pushed journal.resting journal.settled journal.dropped log.cut log.view log.some log.put log.broken log.empty rightsSound sealed granting accessOf wrongSize wrongClass wrongParameters wrongFrame onFile namesFile isFile suits rightsOf accessTo logPending rightsBroken unknownCommand lengthCases unknownFile otherKindOrNever notGranted switchedOff parameterCases ranged roomOf amountCases outside nothingPending rowsOf statusOf purseAfter journalAfter filesAfter changed shown view put brokenBy bench ended refused accepted played laidInto commanded issued blankSettings blank orderRefusal personalised
 edges-answered = refl

@@ -16,7 +16,7 @@ unfoldable pub rightsOf : Settings → ℕ → ℕ
 rightsOf s n =
     pick (eqb n data00) (s .r00) (pick (eqb n data04) (s .r04) (pick (eqb n data1F) (s .r1f) (pick (eqb n value03) (s .r03) (s .r01))))
 
--- may the command i be used on file n; with free GetValue on, that command is granted unless R, W and RW are all Fh
+-- may the command i be used on file n, and through which door; free GetValue is a free condition for that command
 unfoldable pub accessTo : Settings → Session → ℕ → ℕ → Access
 accessTo s k i n = accessOf (rightsOf s n) k (byRead i) (byWrite i) (eqb i getValue && s .free)
 

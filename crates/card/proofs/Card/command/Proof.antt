@@ -1,4 +1,5 @@
 use Rattle.card.specs.Laws.{bench-answers, answered-as, command-short, command-broken, command-refused, command-shows, command-quiet, moved}
+use Rattle.card.specs.Order.{status-told}
 use Rattle.card.specs.View.{view}
 use Rattle.columns.specs.Table.{shows}
 use Rattle.commands.specs.Laws.{command-ok}
@@ -23,8 +24,8 @@ returns-2 c =
     let a = c .before .before .before .before .before .before .before .before .args in
     answered-as _ _ _ _ _ (command-broken (a .self) (now (a .frame)) _ (c .before .before .if1 .left) (sym (c .before .breaks .ensures) ∙ c .if2 .taken)) (bench-answers (a .self) 6 (now (a .reply)))
 
-status-requires : tie.Need-status-requires
-status-requires c κs = tt
+checked-requires : tie.Need-checked-requires
+checked-requires c κs = tt
 
 put-status-requires : tie.Need-put-status-requires
 put-status-requires c κs = tt
@@ -39,7 +40,7 @@ returns-3 : tie.Need-returns-3
 unfolding view
 returns-3 c =
     let a = c .before .before .before .before .before .before .before .before .before .before .before .before .before .before .before .args in
-    command-refused (a .self) (now (a .frame)) (now (a .reply)) (c .before .before .before .before .before .before .before .before .before .if1 .left) (sym (c .before .before .before .before .before .before .before .before .breaks .ensures) ∙ c .before .before .before .before .before .before .before .if2 .left) (c .before .before .before .before .before .before .status .result) (c .before .before .before .before .before .before .status .ensures) (c .before .before .before .before .before .if3 .taken) (c .ended .ensures) (c .before .before .before .put-status .ensures)
+    command-refused (a .self) (now (a .frame)) (now (a .reply)) (c .before .before .before .before .before .before .before .before .before .if1 .left) (sym (c .before .before .before .before .before .before .before .before .breaks .ensures) ∙ c .before .before .before .before .before .before .before .if2 .left) (c .before .before .before .before .before .before .checked .result .status) (status-told _ _ (c .before .before .before .before .before .before .checked .ensures)) (c .before .before .before .before .before .if3 .taken) (c .ended .ensures) (c .before .before .before .put-status .ensures)
 
 byte-at-requires : tie.Need-byte-at-requires
 byte-at-requires c κs = tt
@@ -55,7 +56,7 @@ unfolding view
 shown-requires c κs =
     let b = c .before .before .before .before in
     let a = b .before .before .before .before .before .before .before .before .before .before .before .args in
-    let e : statusOf (view (a .self) .core) (now (a .frame)) ≡ ok = sym (b .before .before .status .ensures) ∙ b .before .if3 .left in
+    let e : statusOf (view (a .self) .core) (now (a .frame)) ≡ ok = sym (status-told _ _ (b .before .before .checked .ensures)) ∙ b .before .if3 .left in
     (sym (c .before .before .shows .ensures) ∙ c .before .if4 .taken, rw (b .byte-at .ensures, c .before .before .before .data .ensures) (command-ok (view (a .self) .core) (now (a .frame)) e), sym (b .before .before .before .before .breaks .ensures) ∙ b .before .before .before .if2 .left, b .before .before .before .before .before .if1 .left)
 
 same-length-2 : tie.Need-same-length-2
@@ -66,7 +67,7 @@ unfolding view
 returns-4 c =
     let b = c .before .before .before .before .before .before .before in
     let a = b .before .before .before .before .before .before .before .before .before .before .before .args in
-    let e : statusOf (view (a .self) .core) (now (a .frame)) ≡ ok = sym (b .before .before .status .ensures) ∙ b .before .if3 .left in
+    let e : statusOf (view (a .self) .core) (now (a .frame)) ≡ ok = sym (status-told _ _ (b .before .before .checked .ensures)) ∙ b .before .if3 .left in
     command-shows (a .self) (now (a .frame)) (now (a .reply)) (b .before .before .before .before .before .if1 .left) (sym (b .before .before .before .before .breaks .ensures) ∙ b .before .before .before .if2 .left) e (rw (b .byte-at .ensures, c .before .before .before .before .before .before .data .ensures) at (c .before .before .shown .ensures))
 
 put-status-requires-2 : tie.Need-put-status-requires-2
@@ -83,7 +84,7 @@ unfolding view
 returns-5 c =
     let b = c .before .before .before .before .before .before .before .before .before in
     let a = b .before .before .before .before .before .before .before .before .before .before .before .args in
-    let e : statusOf (view (a .self) .core) (now (a .frame)) ≡ ok = sym (b .before .before .status .ensures) ∙ b .before .if3 .left in
+    let e : statusOf (view (a .self) .core) (now (a .frame)) ≡ ok = sym (status-told _ _ (b .before .before .checked .ensures)) ∙ b .before .if3 .left in
     let t = sym (ap shows (b .byte-at .ensures)) ∙ sym (c .before .before .before .before .before .before .before .shows .ensures) ∙ c .before .before .before .before .before .before .if4 .left in
     let i = sym (b .byte-at .ensures) ∙ c .before .if5 .taken in
     command-quiet (a .self) (now (a .frame)) (now (a .reply)) (b .before .before .before .before .before .if1 .left) (sym (b .before .before .before .before .breaks .ensures) ∙ b .before .before .before .if2 .left) e t (rw (i, sym (c .before .before .before .before .before .before .before .before .data .ensures)) (c .written .ensures)) (c .before .before .before .before .put-status2 .ensures)
@@ -102,7 +103,7 @@ unfolding view
 returns-6 c =
     let b = c .before .before .before .before .before .before .before .before .before .before .before in
     let a = b .before .before .before .before .before .before .before .before .before .before .before .args in
-    let e : statusOf (view (a .self) .core) (now (a .frame)) ≡ ok = sym (b .before .before .status .ensures) ∙ b .before .if3 .left in
+    let e : statusOf (view (a .self) .core) (now (a .frame)) ≡ ok = sym (status-told _ _ (b .before .before .checked .ensures)) ∙ b .before .if3 .left in
     let d = c .before .before .before .before .before .before .before .before .before .before .data in
     let t = sym (ap shows (b .byte-at .ensures)) ∙ sym (c .before .before .before .before .before .before .before .before .before .shows .ensures) ∙ c .before .before .before .before .before .before .before .before .if4 .left in
     let k : commandStatus (view (a .self) .core) (b .byte-at .result) (now (d .result)) ≡ ok = rw (b .byte-at .ensures, d .ensures) (command-ok (view (a .self) .core) (now (a .frame)) e) in
@@ -116,7 +117,7 @@ command-spec =
     returns
     breaks-requires
     returns-2
-    status-requires
+    checked-requires
     put-status-requires
     ended-requires
     same-length
