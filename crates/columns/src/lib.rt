@@ -1,11 +1,37 @@
-// The columns of the command table and of the file table: a test each.
+// The command table and the file table.
 pub mod table;
 
 use datafiles::Files;
 ghost use mathlib.Core.Path.{_≡_};
 ghost use Rattle.columns.specs.Table.{onData, onValue, onLog, onFile, namesFile, ends, byRead, byWrite, isData, isFile, suits, shows};
+ghost use Rattle.columns.specs.Row.{rowOf};
 
-pub fn on_data(ins: u8) -> bool
+// A command's row of the command table.
+pub struct Row {
+    // It acts on a file; it names a file; it ends the transaction and names none.
+    pub file: bool,
+    pub names: bool,
+    pub ends: bool,
+    // Read grants it, Write grants it; ReadWrite grants every command on a file.
+    pub read: bool,
+    pub write: bool,
+}
+
+impl Row {
+    pub fn of_command(ins: u8) -> Row
+        ensures { λ r. ⌜ r ≡ rowOf ins ⌝ }
+    {
+        Row {
+            file: on_file(ins),
+            names: names_file(ins),
+            ends: ends_all(ins),
+            read: by_read(ins),
+            write: by_write(ins),
+        }
+    }
+}
+
+fn on_data(ins: u8) -> bool
     ensures { λ r. ⌜ r ≡ onData ins ⌝ }
 {
     (ins == table::READ_DATA) | (ins == table::WRITE_DATA)
@@ -26,14 +52,14 @@ fn on_log(ins: u8) -> bool
     (ins == table::READ_RECORDS) | (ins == table::WRITE_RECORD) | (ins == table::CLEAR_RECORD_FILE)
 }
 
-pub fn on_file(ins: u8) -> bool
+fn on_file(ins: u8) -> bool
     ensures { λ r. ⌜ r ≡ onFile ins ⌝ }
 {
     on_data(ins) | on_value(ins) | on_log(ins)
 }
 
 // The commands on a file, and GetFileSettings.
-pub fn names_file(ins: u8) -> bool
+fn names_file(ins: u8) -> bool
     ensures { λ r. ⌜ r ≡ namesFile ins ⌝ }
 {
     let file = on_file(ins);
@@ -41,13 +67,13 @@ pub fn names_file(ins: u8) -> bool
 }
 
 // Commit and abort, which name no file.
-pub fn ends_all(ins: u8) -> bool
+fn ends_all(ins: u8) -> bool
     ensures { λ r. ⌜ r ≡ ends ins ⌝ }
 {
     (ins == table::COMMIT_TRANSACTION) | (ins == table::ABORT_TRANSACTION)
 }
 
-pub fn by_read(ins: u8) -> bool
+fn by_read(ins: u8) -> bool
     ensures { λ r. ⌜ r ≡ byRead ins ⌝ }
 {
     (ins == table::READ_DATA)
@@ -56,7 +82,7 @@ pub fn by_read(ins: u8) -> bool
         | (ins == table::READ_RECORDS)
 }
 
-pub fn by_write(ins: u8) -> bool
+fn by_write(ins: u8) -> bool
     ensures { λ r. ⌜ r ≡ byWrite ins ⌝ }
 {
     (ins == table::WRITE_DATA)

@@ -1,5 +1,6 @@
 // Places 5 to 13 of the order of checks: a test each, of an INS with its data field d.
 use access::Access;
+use columns::Row;
 use columns::table;
 use datafiles::Files;
 use limits::Limits;
@@ -11,9 +12,8 @@ ghost use Rattle.commands.specs.Rows.{unknownCommand, wrongLength, unkno
 pub fn unknown_command(ins: u8) -> bool
     ensures { λ r. ⌜ r ≡ unknownCommand ins ⌝ }
 {
-    let file = columns::names_file(ins);
-    let end = columns::ends_all(ins);
-    !(file | end)
+    let row = Row::of_command(ins);
+    !(row.names | row.ends)
 }
 
 pub fn wrong_length(ins: u8, d: &[u8]) -> bool
@@ -39,26 +39,26 @@ pub fn wrong_length(ins: u8, d: &[u8]) -> bool
 pub fn unknown_file(ins: u8, n: u8) -> bool
     ensures { λ r. ⌜ r ≡ unknownFile ins n ⌝ }
 {
-    let file = columns::names_file(ins);
+    let row = Row::of_command(ins);
     let known = columns::is_file(n);
-    file & !known
+    row.names & !known
 }
 
 pub fn other_kind_or_never(ins: u8, n: u8, access: Access) -> bool
     ensures { λ r. ⌜ r ≡ otherKindOrNever ins n access ⌝ }
 {
-    let file = columns::on_file(ins);
+    let row = Row::of_command(ins);
     let suited = columns::suits_file(ins, n);
     let never = access.is_never();
-    file & (!suited | never)
+    row.file & (!suited | never)
 }
 
 pub fn not_granted(ins: u8, access: Access) -> bool
     ensures { λ r. ⌜ r ≡ notGranted ins access ⌝ }
 {
-    let file = columns::on_file(ins);
+    let row = Row::of_command(ins);
     let refused = access.is_not_granted();
-    file & refused
+    row.file & refused
 }
 
 pub fn switched_off(ins: u8, limited: bool, clears: bool) -> bool
@@ -83,8 +83,10 @@ pub fn bad_parameter(ins: u8, d: &[u8]) -> bool
 fn has_range(ins: u8) -> bool
     ensures { λ r. ⌜ r ≡ ranged ins ⌝ }
 {
-    let data = columns::on_data(ins);
-    data | (ins == table::READ_RECORDS) | (ins == table::WRITE_RECORD)
+    (ins == table::READ_DATA)
+        | (ins == table::WRITE_DATA)
+        | (ins == table::READ_RECORDS)
+        | (ins == table::WRITE_RECORD)
 }
 
 // The room that they are held to.
@@ -129,6 +131,6 @@ pub fn is_outside(limits: Limits, purse: Purse, entries: u8, ins: u8, d: &[u8]) 
 pub fn nothing_pending(ins: u8, value: bool, log: bool) -> bool
     ensures { λ r. ⌜ r ≡ nothingPending ins value log ⌝ }
 {
-    let end = columns::ends_all(ins);
-    end & !(value | log)
+    let row = Row::of_command(ins);
+    row.ends & !(value | log)
 }

@@ -1,6 +1,7 @@
 // What personalisation fixes, and what it grants.
 use access::Access;
 use access::Session;
+use columns::Row;
 use columns::table;
 use datafiles::Files;
 use limits::Limits;
@@ -45,13 +46,12 @@ impl Settings {
         ensures { λ r. ⌜ r ≡ accessTo self session ins n ⌝ }
     {
         let rights = self.rights(n);
-        let by_read = columns::by_read(ins);
-        let by_write = columns::by_write(ins);
+        let row = Row::of_command(ins);
         access::decide(
             rights,
             session,
-            by_read,
-            by_write,
+            row.read,
+            row.write,
             (ins == table::GET_VALUE) & self.free,
         )
     }

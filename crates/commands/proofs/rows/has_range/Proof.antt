@@ -1,13 +1,11 @@
 use Rattle.commands.specs.Rows.{ranged}
+use mathlib.Core.Path.{refl}
 use Rattle.commands.proofs.rows.has_range.Statement.{statement}
 use Rattle.commands.proofs.rows.has_range.Tie as tie
 
-on-data-requires : tie.Need-on-data-requires
-on-data-requires c κs = tt
-
 returns : tie.Need-returns
 unfolding ranged
-returns c = simp (c .on-data .ensures)
+returns c = refl
 
 pub has-range-spec : {M : Type 1} → statement M
-has-range-spec = tie.close (tie.spec on-data-requires returns)
+has-range-spec = tie.close (tie.spec returns)

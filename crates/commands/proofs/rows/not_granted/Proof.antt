@@ -1,16 +1,17 @@
+use Rattle.columns.specs.Row.{told-file}
 use Rattle.commands.specs.Rows.{notGranted}
 use Rattle.commands.proofs.rows.not_granted.Statement.{statement}
 use Rattle.commands.proofs.rows.not_granted.Tie as tie
 
-on-file-requires : tie.Need-on-file-requires
-on-file-requires c κs = tt
+of-command-requires : tie.Need-of-command-requires
+of-command-requires c κs = tt
 
 is-not-granted-requires : tie.Need-is-not-granted-requires
 is-not-granted-requires c κs = tt
 
 returns : tie.Need-returns
 unfolding notGranted
-returns c = simp (c .is-not-granted .ensures, c .before .on-file .ensures)
+returns c = simp (c .before .is-not-granted .ensures, told-file _ (c .before .before .of-command .ensures))
 
 pub not-granted-spec : {M : Type 1} → statement M
-not-granted-spec = tie.close (tie.spec on-file-requires is-not-granted-requires returns)
+not-granted-spec = tie.close (tie.spec of-command-requires is-not-granted-requires returns)

@@ -1,13 +1,14 @@
+use Rattle.columns.specs.Row.{told-ends}
 use Rattle.commands.specs.Rows.{nothingPending}
 use Rattle.commands.proofs.rows.nothing_pending.Statement.{statement}
 use Rattle.commands.proofs.rows.nothing_pending.Tie as tie
 
-ends-all-requires : tie.Need-ends-all-requires
-ends-all-requires c κs = tt
+of-command-requires : tie.Need-of-command-requires
+of-command-requires c κs = tt
 
 returns : tie.Need-returns
 unfolding nothingPending
-returns c = simp (c .ends-all .ensures)
+returns c = simp (told-ends _ (c .before .of-command .ensures))
 
 pub nothing-pending-spec : {M : Type 1} → statement M
-nothing-pending-spec = tie.close (tie.spec ends-all-requires returns)
+nothing-pending-spec = tie.close (tie.spec of-command-requires returns)

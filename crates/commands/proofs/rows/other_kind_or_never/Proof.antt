@@ -1,9 +1,10 @@
+use Rattle.columns.specs.Row.{told-file}
 use Rattle.commands.specs.Rows.{otherKindOrNever}
 use Rattle.commands.proofs.rows.other_kind_or_never.Statement.{statement}
 use Rattle.commands.proofs.rows.other_kind_or_never.Tie as tie
 
-on-file-requires : tie.Need-on-file-requires
-on-file-requires c κs = tt
+of-command-requires : tie.Need-of-command-requires
+of-command-requires c κs = tt
 
 suits-file-requires : tie.Need-suits-file-requires
 suits-file-requires c κs = tt
@@ -13,8 +14,8 @@ is-never-requires c κs = tt
 
 returns : tie.Need-returns
 unfolding otherKindOrNever
-returns c = simp (c .is-never .ensures, c .before .suits-file .ensures, c .before .before .on-file .ensures)
+returns c = simp (c .before .is-never .ensures, c .before .before .suits-file .ensures, told-file _ (c .before .before .before .of-command .ensures))
 
 pub other-kind-or-never-spec : {M : Type 1} → statement M
 other-kind-or-never-spec =
-    tie.close (tie.spec on-file-requires suits-file-requires is-never-requires returns)
+    tie.close (tie.spec of-command-requires suits-file-requires is-never-requires returns)

@@ -1,16 +1,14 @@
+use Rattle.columns.specs.Row.{told-names, told-ends}
 use Rattle.commands.specs.Rows.{unknownCommand}
 use Rattle.commands.proofs.rows.unknown_command.Statement.{statement}
 use Rattle.commands.proofs.rows.unknown_command.Tie as tie
 
-names-file-requires : tie.Need-names-file-requires
-names-file-requires c κs = tt
-
-ends-all-requires : tie.Need-ends-all-requires
-ends-all-requires c κs = tt
+of-command-requires : tie.Need-of-command-requires
+of-command-requires c κs = tt
 
 returns : tie.Need-returns
 unfolding unknownCommand
-returns c = simp (c .ends-all .ensures, c .before .names-file .ensures)
+returns c = simp (told-names _ (c .before .of-command .ensures), told-ends _ (c .before .of-command .ensures))
 
 pub unknown-command-spec : {M : Type 1} → statement M
-unknown-command-spec = tie.close (tie.spec names-file-requires ends-all-requires returns)
+unknown-command-spec = tie.close (tie.spec of-command-requires returns)
