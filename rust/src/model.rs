@@ -294,8 +294,9 @@ struct LogFile {
 struct ValueWork {
     /// The pending value.
     value: i32,
-    /// What this transaction's LimitedCredits have taken from the allowance.
-    taken: i32,
+    /// What the next LimitedCredit may take: the committed allowance, and 0
+    /// once this transaction has a LimitedCredit.
+    allowance: i32,
     /// The sum of this transaction's Debits, held at 2,147,483,647; none if it
     /// has no Debit.
     debits: Option<i32>,
@@ -331,7 +332,7 @@ pub struct Books {
     pub pending_value: i32,
     /// The committed allowance.
     pub allowance: i32,
-    /// The committed allowance less what the open transaction has taken.
+    /// What the next LimitedCredit may take.
     pub pending_allowance: i32,
     /// The sum of the open transaction's Debits, held at 2,147,483,647.
     pub debit_sum: i32,
@@ -787,7 +788,7 @@ impl Card {
     fn value_work(&self) -> ValueWork {
         self.pending.value.unwrap_or(ValueWork {
             value: self.value.value,
-            taken: 0,
+            allowance: self.value.allowance,
             debits: None,
         })
     }
@@ -840,12 +841,12 @@ impl Card {
         check_amount(amount)?;
         let work = self.value_work();
         let value = self.within_limits(work.value.checked_add(amount))?;
-        if amount > self.value.allowance - work.taken {
+        if amount > work.allowance {
             return Err(Refusal::Boundary);
         }
         self.pending.value = Some(ValueWork {
             value,
-            taken: work.taken + amount,
+            allowance: 0,
             ..work
         });
         Ok(())
@@ -907,7 +908,7 @@ impl Card {
             self.value.value = work.value;
             self.value.allowance = match work.debits {
                 Some(sum) => sum,
-                None => self.value.allowance - work.taken,
+                None => work.allowance,
             };
         }
         match pending.log {
@@ -971,7 +972,7 @@ impl Card {
             value: self.value.value,
             pending_value: work.value,
             allowance: self.value.allowance,
-            pending_allowance: self.value.allowance - work.taken,
+            pending_allowance: work.allowance,
             debit_sum: work.debits.unwrap_or(0),
             entries: self.log.entries.len(),
             value_pending: self.pending.value.is_some(),
@@ -1208,7 +1209,31 @@ mod tests {
             assert_eq!(reply(&mut card, &frame), OK);
         }
         assert_eq!(reply(&mut card.clone(), &limited_credit(21)), BOUNDARY);
-        assert_eq!(reply(&mut card, &limited_credit(20)), OK);
+        assert_eq!(reply(&mut card, &limited_credit(20)), BOUNDARY);
+    }
+
+    #[test]
+    fn one_rebooking_uses_the_allowance_up() {
+        let mut card = Card::program_card();
+        for frame in [debit(30), commit(), limited_credit(1)] {
+            assert_eq!(reply(&mut card, &frame), OK);
+        }
+        assert_eq!(card.books().allowance, 30);
+        assert_eq!(card.books().pending_allowance, 0);
+        assert_eq!(reply(&mut card.clone(), &limited_credit(1)), BOUNDARY);
+        // An abort brings the allowance back.
+        let mut aborted = card.clone();
+        for frame in [abort(), limited_credit(30)] {
+            assert_eq!(reply(&mut aborted, &frame), OK);
+        }
+        // A Debit of the same transaction counts, before or after it.
+        let mut sold = card.clone();
+        for frame in [debit(5), commit()] {
+            assert_eq!(reply(&mut sold, &frame), OK);
+        }
+        assert_eq!(sold.books().allowance, 5);
+        assert_eq!(reply(&mut card, &commit()), OK);
+        assert_eq!(card.books().allowance, 0);
     }
 
     #[test]

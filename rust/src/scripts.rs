@@ -210,6 +210,11 @@ pub struct Tally {
     pub sealed_settings: u64,
     /// Refused ones, by the place of the order of checks.
     pub settings_places: [u64; 13],
+    /// LimitedCredits within the committed allowance, refused at place 12
+    /// after another of their transaction.
+    pub used_up: u64,
+    /// Commits of a LimitedCredit: without a Debit, and with one.
+    pub rebookings: [u64; 2],
     /// Commits that pushed an entry out of the log.
     pub pushed_out: u64,
     /// Commits whose Debit sum was held at 2,147,483,647.
@@ -254,6 +259,11 @@ impl std::fmt::Display for Tally {
             f,
             "\nsettings of each file {:?}, of them sealed {}, refused by place {:?}",
             self.settings, self.sealed_settings, self.settings_places
+        )?;
+        writeln!(
+            f,
+            "second re-bookings {}, re-bookings committed without and with a Debit {:?}",
+            self.used_up, self.rebookings
         )?;
         write!(
             f,
@@ -465,6 +475,9 @@ impl Writer {
                     if refusal == Refusal::BadParameter {
                         self.count_zero_amount(frame);
                     }
+                    if refusal == Refusal::Boundary && self.is_second_rebooking(frame) {
+                        self.tally.used_up += 1;
+                    }
                     self.open = 0;
                 }
             }
@@ -479,6 +492,18 @@ impl Writer {
         if let Some(place) = place {
             self.tally.zero_amounts[place] += 1;
         }
+    }
+
+    /// Whether a frame is a LimitedCredit within the committed allowance that
+    /// another of its transaction has used up.
+    fn is_second_rebooking(&self, frame: &[u8]) -> bool {
+        let books = self.bench.card().books();
+        let amount = frame.get(6..10).map_or(u32::MAX, |bytes| {
+            u32::from_le_bytes(bytes.try_into().expect("four bytes"))
+        });
+        frame.get(1) == Some(&ins::LIMITED_CREDIT)
+            && i64::from(amount) <= i64::from(books.allowance)
+            && books.pending_allowance < books.allowance
     }
 
     fn count_settings(&mut self, file: u8) {
@@ -498,6 +523,9 @@ impl Writer {
             ins::COMMIT => {
                 self.tally.pushed_out += u64::from(books.entries == 4 && books.entry_pending);
                 self.tally.held_sums += u64::from(books.debit_sum == i32::MAX);
+                if books.pending_allowance < books.allowance {
+                    self.tally.rebookings[usize::from(books.debit_sum > 0)] += 1;
+                }
                 self.tally.long_transactions += u64::from(self.open >= 10);
                 self.open = 0;
             }
@@ -521,7 +549,9 @@ impl Writer {
                 self.useful_session(frame[5]);
                 continue;
             }
-            if outcome.is_ok() || attempt == 7 || self.rng.percent(self.mood.refusals) {
+            let second = outcome == Err(Refusal::Boundary) && self.is_second_rebooking(&frame);
+            let refusals = self.mood.refusals + if second { 25 } else { 0 };
+            if outcome.is_ok() || attempt == 7 || self.rng.percent(refusals) {
                 self.frame(&frame, outcome);
                 return;
             }
@@ -660,7 +690,8 @@ impl Writer {
 
     fn value_frame(&mut self) -> Vec<u8> {
         let file = self.file(&[0x03]);
-        let instruction = self.rng.pick(&[
+        let books = self.bench.card().books();
+        let mut instruction = self.rng.pick(&[
             ins::GET_VALUE,
             ins::CREDIT,
             ins::CREDIT,
@@ -673,13 +704,17 @@ impl Writer {
         if instruction == ins::GET_VALUE {
             return frame(instruction, &[file]);
         }
-        let books = self.bench.card().books();
+        // With nothing to take back, mostly a sale.
+        if instruction == ins::LIMITED_CREDIT && books.allowance == 0 && self.rng.percent(75) {
+            instruction = ins::DEBIT;
+        }
         let (lower, upper) = self.bench.card().limits();
         let headroom = match instruction {
             ins::DEBIT => i64::from(books.pending_value) - i64::from(lower),
             _ => i64::from(upper) - i64::from(books.pending_value),
         };
-        let allowance = i64::from(books.pending_allowance);
+        // What the last sale allows, though it may be used up.
+        let allowance = i64::from(books.allowance);
         let most = match instruction {
             ins::LIMITED_CREDIT if self.rng.percent(80) => allowance,
             _ => headroom,
@@ -1072,13 +1107,13 @@ fn speed_read(rng: &mut Rng) -> Vec<u8> {
     }
 }
 
-/// Transactions of Debit, Credit, LimitedCredit and commit by turns. A Debit of
-/// 100 to 199 in each transaction keeps the allowance at or above 100.
+/// Transactions of Debit, two Credits, LimitedCredit and commit by turns. A
+/// Debit of 100 to 199 in each transaction keeps the allowance at or above 100.
 fn speed_value(rng: &mut Rng, at: usize) -> Vec<u8> {
     match at % 5 {
         0 => amount_frame(ins::DEBIT, 0x03, 100 + rng.below(100) as u32),
         // The first transaction finds no allowance.
-        2..=3 if at >= 5 => amount_frame(ins::LIMITED_CREDIT, 0x03, 1 + rng.below(50) as u32),
+        3 if at >= 5 => amount_frame(ins::LIMITED_CREDIT, 0x03, 1 + rng.below(50) as u32),
         1..=3 => amount_frame(ins::CREDIT, 0x03, 1 + rng.below(100) as u32),
         _ => frame(ins::COMMIT, &[]),
     }
@@ -1150,7 +1185,7 @@ mod tests {
     #[test]
     fn scripts_meet_everything_often() {
         let mut writer = Writer::new(3);
-        while writer.tally.events() < 60_000 {
+        while writer.tally.events() < 100_000 {
             writer.script(3000);
         }
         let tally = &writer.tally;
@@ -1182,10 +1217,13 @@ mod tests {
             tally.others,
             tally.pushed_out,
             tally.long_transactions,
+            tally.rebookings[0],
+            tally.rebookings[1],
         ] {
             assert!(count >= 100, "{tally}");
         }
         assert!(tally.held_sums >= 10, "{tally}");
+        assert!(tally.used_up >= 50, "{tally}");
     }
 
     #[test]

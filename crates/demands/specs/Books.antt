@@ -1,5 +1,5 @@
 -- Plain bookkeeping over operations that were committed. No card, no frame and no step of the card is named here.
-use Prim.Native.Nat.{ℕ, _+_, _-_, min}
+use Prim.Native.Nat.{ℕ, _+_, min}
 use mathlib.Core.Bool.{Bool, true, false, _||_}
 use mathlib.Core.List.{List, [], _∷_}
 use lib.IntN.{ℤ, pos, _+ℤ_, _-ℤ_}
@@ -39,20 +39,19 @@ outflow (rebooked n) = 0
 outflow (entered at bytes) = 0
 outflow cleared = 0
 
--- taken from the allowance
-abbrev pub taken : Op → ℕ
-taken (paid-in n) = 0
-taken (paid-out n) = 0
-taken (rebooked n) = n
-taken (entered at bytes) = 0
-taken cleared = 0
-
 abbrev pub isDebit : Op → Bool
 isDebit (paid-in n) = false
 isDebit (paid-out n) = true
 isDebit (rebooked n) = false
 isDebit (entered at bytes) = false
 isDebit cleared = false
+
+abbrev pub isRebooking : Op → Bool
+isRebooking (paid-in n) = false
+isRebooking (paid-out n) = false
+isRebooking (rebooked n) = true
+isRebooking (entered at bytes) = false
+isRebooking cleared = false
 
 abbrev pub isEntry : Op → Bool
 isEntry (paid-in n) = false
@@ -84,9 +83,9 @@ valueAfter start ops = start +ℤ pos (sum inflow ops) -ℤ pos (sum outflow ops
 
 -- ---- allowance and log, over one transaction
 
--- with at least one Debit the sum of the Debits, held at the largest figure; without, the old one less what was taken
+-- with at least one Debit the sum of the Debits, held at the largest figure; else with a re-booking 0; else the old one
 unfoldable pub allowanceAfter : ℕ → List Op → ℕ
-allowanceAfter old tx = pick (some isDebit tx) (min (sum outflow tx) 2147483647) (old - sum taken tx)
+allowanceAfter old tx = pick (some isDebit tx) (min (sum outflow tx) 2147483647) (pick (some isRebooking tx) 0 old)
 
 -- the entry e, overwritten by the transaction's WriteRecords in order
 unfoldable pub overwritten : List ℕ → List Op → List ℕ

@@ -125,6 +125,6 @@ second-transaction = refl
 
 -- and the books say the same
 pub sales-booked : books sales
-    ≡ record { value = pos 75; allowance = 25; log = (0xAA ∷ 0 ∷ 0 ∷ 0 ∷ 0 ∷ 0 ∷ 0 ∷ 0 ∷ 0 ∷ 0 ∷ 0 ∷ 0 ∷ 0 ∷ 0 ∷ 0 ∷ 0xBB ∷ []) ∷ [] }
+    ≡ record { value = pos 75; allowance = 0; log = (0xAA ∷ 0 ∷ 0 ∷ 0 ∷ 0 ∷ 0 ∷ 0 ∷ 0 ∷ 0 ∷ 0 ∷ 0 ∷ 0 ∷ 0 ∷ 0 ∷ 0 ∷ 0xBB ∷ []) ∷ [] }
 unfolding books sales
 sales-booked = refl

@@ -1,5 +1,5 @@
 -- The value file: its figures in whole numbers, and what each command does to them.
-use Prim.Native.Nat.{ℕ, _+_, _-_, min}
+use Prim.Native.Nat.{ℕ, _+_, min}
 use mathlib.Core.Bool.{true, false}
 use lib.IntN.{ℤ, pos, _+ℤ_, _-ℤ_}
 use Rattle.tables.specs.Choice.{pick}
@@ -29,9 +29,9 @@ heldSum sum n = min (sum + n) largest
 unfoldable pub debited : Purse → ℕ → Purse
 debited p n = record { value = p .value; allowance = p .allowance; pending = p .pending -ℤ pos n; left = p .left; debits = heldSum (p .debits) n; debited = true; moved = true }
 
--- LimitedCredit: it rises, and the amount is taken from what is left of the allowance
+-- LimitedCredit: it rises, and what is left of the allowance is used up
 unfoldable pub rebooked : Purse → ℕ → Purse
-rebooked p n = raised p n (p .left - n)
+rebooked p n = raised p n 0
 
 -- commit takes over the pending figures; a transaction with a Debit sets the allowance to its sum of Debits
 unfoldable pub settled : Purse → Purse

@@ -82,15 +82,14 @@ impl Purse {
         self
     }
 
-    // LimitedCredit: it takes the amount from what is left of the allowance.
+    // LimitedCredit: it uses up what is left of the allowance.
     pub fn rebook(self, limits: Limits, amount: u32) -> Purse
         ensures { λ r. ⌜ r ≡ rebookIn limits self amount ⌝ }
     {
-        let left = self.left;
-        if left < amount {
+        if self.left < amount {
             return self;
         }
-        self.raise(limits, amount, left - amount)
+        self.raise(limits, amount, 0)
     }
 
     // The pending figures become the committed ones; after a Debit the allowance is the sum of Debits.

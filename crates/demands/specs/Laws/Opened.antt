@@ -15,7 +15,7 @@ use Rattle.logbook.specs.Journal.{Journal}
 use Rattle.logbook.specs.Journal as journal
 use Rattle.logbook.specs.View as log
 use Rattle.logbook.specs.Fit.{Fit}
-use Rattle.demands.specs.Books.{Op, paid-in, paid-out, rebooked, entered, cleared, outflow, inflow, taken, isDebit, isEntry, isClear, sum, some, valueAfter, allowanceAfter, overwritten}
+use Rattle.demands.specs.Books.{Op, paid-in, paid-out, rebooked, entered, cleared, outflow, inflow, isDebit, isRebooking, isEntry, isClear, sum, some, valueAfter, allowanceAfter, overwritten}
 use Rattle.demands.specs.Laws.Sound.{fresh-sized}
 use Rattle.demands.specs.Laws.Posting.{one-more, has-clear, plus, minus, value-none, logAfter}
 
@@ -23,13 +23,13 @@ use Rattle.demands.specs.Laws.Posting.{one-more, has-clear, plus, minus,
 
 pub record OpenPurse (p : Purse) (tx : List Op) : Type 0 where
   pub value : p .pending ≡ valueAfter (p .value) tx
-  pub left : p .left ≡ p .allowance - sum taken tx
+  pub left : p .left ≡ pick (some isRebooking tx) 0 (p .allowance)
   pub debits : p .debits ≡ min (sum outflow tx) 2147483647
   pub debited : p .debited ≡ some isDebit tx
 
 pub purse-rests : (v : ℤ) (a : ℕ) → OpenPurse (purse.resting v a) []
-unfolding purse.resting sum some
-purse-rests v a = record { value = value-none v; left = omega arith; debits = refl; debited = refl }
+unfolding purse.resting sum some pick
+purse-rests v a = record { value = value-none v; left = refl; debits = refl; debited = refl }
 
 module _ (p : Purse) (tx : List Op) (h : OpenPurse p tx) where
   pub purse-in : (n : ℕ) → OpenPurse (purse.credited p n) (tx ++ (paid-in n ∷ []))
@@ -41,8 +41,8 @@ module _ (p : Purse) (tx : List Op) (h : OpenPurse p tx) where
   purse-out n = record { value = simp one-more (rw (h .value) (minus (p .value) (sum inflow tx) (sum outflow tx) n)); left = simp one-more (h .left); debits = simp one-more (omega (arith, h .debits)); debited = simp one-more }
 
   pub purse-rebooked : (n : ℕ) → OpenPurse (purse.rebooked p n) (tx ++ (rebooked n ∷ []))
-  unfolding purse.rebooked valueAfter
-  purse-rebooked n = record { value = simp one-more (rw (h .value) (plus (p .value) (sum inflow tx) (sum outflow tx) n)); left = simp one-more (omega (arith, h .left)); debits = simp one-more (h .debits); debited = simp one-more (h .debited) }
+  unfolding purse.rebooked valueAfter pick
+  purse-rebooked n = record { value = simp one-more (rw (h .value) (plus (p .value) (sum inflow tx) (sum outflow tx) n)); left = simp one-more; debits = simp one-more (h .debits); debited = simp one-more (h .debited) }
 
   pub purse-entered : (at : ℕ) (bytes : List ℕ) → OpenPurse p (tx ++ (entered at bytes ∷ []))
   unfolding valueAfter
