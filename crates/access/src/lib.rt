@@ -1,7 +1,6 @@
 // Access rights, the session, and the access decision.
 ghost use mathlib.Core.Path.{_≡_};
-ghost use mathlib.Core.Bool.{_&&_};
-ghost use Rattle.access.specs.Rights.{readOf, writeOf, readWriteOf, changeOf, nibbleSound, rightsSound, keyOf, sessionSound, sealed, granting, accessOf, isNever, isNotGranted};
+ghost use Rattle.access.specs.Rights.{readOf, writeOf, readWriteOf, changeOf, nibbleSound, rightsSound, keyOf, sessionSound, sealed, granting, accessOf};
 
 pub enum Session {
     Nobody,
@@ -46,30 +45,15 @@ fn nibble_is_sound(n: u8) -> bool
     (n <= 4) | (0xE <= n)
 }
 
-fn nibbles_are_sound(a: u8, b: u8, c: u8, d: u8) -> bool
-    ensures { λ r. ⌜ r ≡ (nibbleSound a && nibbleSound b && nibbleSound c && nibbleSound d) ⌝ }
-{
-    if !nibble_is_sound(a) {
-        return false;
-    }
-    if !nibble_is_sound(b) {
-        return false;
-    }
-    if !nibble_is_sound(c) {
-        return false;
-    }
-    nibble_is_sound(d)
-}
-
 // Whether no nibble of a file's rights is 5 to Dh.
 pub fn rights_are_sound(x: u16) -> bool
     ensures { λ r. ⌜ r ≡ rightsSound x ⌝ }
 {
-    let r = read_of(x);
-    let w = write_of(x);
-    let rw = read_write_of(x);
-    let ch = change_of(x);
-    nibbles_are_sound(r, w, rw, ch)
+    let r = nibble_is_sound(read_of(x));
+    let w = nibble_is_sound(write_of(x));
+    let rw = nibble_is_sound(read_write_of(x));
+    let ch = nibble_is_sound(change_of(x));
+    r & w & rw & ch
 }
 
 fn is_sealed(x: u16, by_read: bool, by_write: bool) -> bool
@@ -127,30 +111,6 @@ impl Session {
         match self {
             Session::Nobody => true,
             Session::Key(k) => k <= 4,
-        }
-    }
-}
-
-impl Access {
-    pub fn is_never(self) -> bool
-        ensures { λ r. ⌜ r ≡ isNever self ⌝ }
-    {
-        match self {
-            Access::Never => true,
-            Access::NotGranted => false,
-            Access::FreeOnly => false,
-            Access::ByKey => false,
-        }
-    }
-
-    pub fn is_not_granted(self) -> bool
-        ensures { λ r. ⌜ r ≡ isNotGranted self ⌝ }
-    {
-        match self {
-            Access::Never => false,
-            Access::NotGranted => true,
-            Access::FreeOnly => false,
-            Access::ByKey => false,
         }
     }
 }

@@ -5,7 +5,7 @@ ghost use lib.Dec.{ltb};
 ghost use lib.ListN.{length};
 ghost use Rattle.wire.specs.Bytes.{Shows};
 ghost use Rattle.text.specs.Shown.{inRoom, Adds};
-ghost use Rattle.answers.specs.Answers.{numbered, refusalText, replyText, replyLine, replySize};
+ghost use Rattle.answers.specs.Answers.{numbered, replyText, replyLine, replySize};
 
 // Lays `!` and a number over the front of answer and answers the number of characters; nothing and 0 where there is no room.
 pub fn put_number(n: u8, answer: &mut [u8]) -> usize
@@ -17,16 +17,6 @@ pub fn put_number(n: u8, answer: &mut [u8]) -> usize
     let two = [0x21, 0x30 + n % 10];
     wire::lay(answer, 0, &two);
     2
-}
-
-// The same, and nothing for 0.
-pub fn put_number_but_0(n: u8, answer: &mut [u8]) -> usize
-    ensures { λ r. ⌜ Shows (inRoom (length (now (answer .entry))) (refusalText n)) (now (answer .entry)) (now (answer .exit)) r ⌝ }
-{
-    if n == 0 {
-        return 0;
-    }
-    put_number(n, answer)
 }
 
 // A reply in capital digits, or the bench refusal.

@@ -224,11 +224,28 @@ impl Card {
         }
     }
 
+    // Whether the command's reply has data.
+    fn shows(ins: u8) -> bool
+        ensures { λ r. ⌜ r ≡ shows ins ⌝ }
+    {
+        let read = (ins == table::READ_DATA)
+            | (ins == table::GET_VALUE)
+            | (ins == table::READ_RECORDS);
+        read | (ins == table::GET_FILE_SETTINGS)
+    }
+
+    // The two bytes of a status word, most significant first.
+    fn word_of(s: u16) -> [u8; 2]
+        ensures { λ r. ⌜ r ≡ word s ⌝ }
+    {
+        [(s / 256) as u8, (s % 256) as u8]
+    }
+
     // Lays the two status bytes over the front of reply.
     fn put_status(status: u16, reply: &mut [u8])
         ensures { λ _. ⌜ now (reply .exit) ≡ laidIn (now (reply .entry)) 0 (word status) ⌝ }
     {
-        let two = wire::word_of(status);
+        let two = Card::word_of(status);
         wire::lay(reply, 0, &two);
     }
 
@@ -242,7 +259,7 @@ impl Card {
         let purse = self.purse;
         let log = self.log;
         let n = effects::show(settings, files, purse, log, ins, d, reply);
-        let two = wire::word_of(Card::OK);
+        let two = Card::word_of(Card::OK);
         wire::lay(reply, n, &two);
         Reply {
             card: self,
@@ -287,7 +304,7 @@ impl Card {
         }
         let ins = wire::byte_at(frame, 1);
         let d = frames::data(frame);
-        if columns::shows(ins) {
+        if Card::shows(ins) {
             return self.shown(ins, d, reply);
         }
         Card::put_status(Card::OK, reply);

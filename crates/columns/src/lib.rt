@@ -3,7 +3,7 @@ pub mod table;
 
 use datafiles::Files;
 ghost use mathlib.Core.Path.{_≡_};
-ghost use Rattle.columns.specs.Table.{onData, onValue, onLog, onFile, namesFile, ends, byRead, byWrite, isData, isFile, suits, shows};
+ghost use Rattle.columns.specs.Table.{onData, onValue, onLog, onFile, namesFile, ends, byRead, byWrite, isData, suits};
 ghost use Rattle.columns.specs.Row.{rowOf};
 
 // A command's row of the command table.
@@ -98,13 +98,6 @@ pub fn is_data(n: u8) -> bool
     (n == Files::DATA_00) | (n == Files::DATA_04) | (n == Files::DATA_1F)
 }
 
-pub fn is_file(n: u8) -> bool
-    ensures { λ r. ⌜ r ≡ isFile n ⌝ }
-{
-    let bytes = is_data(n);
-    bytes | (n == table::VALUE_03) | (n == table::LOG_01)
-}
-
 // Whether file n is of the kind on which the command acts.
 pub fn suits_file(ins: u8, n: u8) -> bool
     ensures { λ r. ⌜ r ≡ suits ins n ⌝ }
@@ -114,12 +107,4 @@ pub fn suits_file(ins: u8, n: u8) -> bool
     let value = on_value(ins);
     let log = on_log(ins);
     (data & bytes) | (value & (n == table::VALUE_03)) | (log & (n == table::LOG_01))
-}
-
-// Whether the command's reply has data.
-pub fn shows(ins: u8) -> bool
-    ensures { λ r. ⌜ r ≡ shows ins ⌝ }
-{
-    let read = (ins == table::READ_DATA) | (ins == table::GET_VALUE) | (ins == table::READ_RECORDS);
-    read | (ins == table::GET_FILE_SETTINGS)
 }

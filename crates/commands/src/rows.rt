@@ -7,6 +7,8 @@ use limits::Limits;
 use logbook::Log;
 use purse::Purse;
 ghost use mathlib.Core.Path.{_≡_};
+ghost use Rattle.access.specs.Rights.{isNever, isNotGranted};
+ghost use Rattle.columns.specs.Table.{isFile};
 ghost use Rattle.commands.specs.Rows.{unknownCommand, wrongLength, unknownFile, otherKindOrNever, notGranted, switchedOff, badParameter, ranged, roomOf, outsideAmount, outside, nothingPending};
 
 pub fn unknown_command(ins: u8) -> bool
@@ -36,12 +38,42 @@ pub fn wrong_length(ins: u8, d: &[u8]) -> bool
         | ((ins == table::GET_FILE_SETTINGS) & (n != 1))
 }
 
+fn is_file(n: u8) -> bool
+    ensures { λ r. ⌜ r ≡ isFile n ⌝ }
+{
+    let bytes = columns::is_data(n);
+    bytes | (n == table::VALUE_03) | (n == table::LOG_01)
+}
+
 pub fn unknown_file(ins: u8, n: u8) -> bool
     ensures { λ r. ⌜ r ≡ unknownFile ins n ⌝ }
 {
     let row = Row::of_command(ins);
-    let known = columns::is_file(n);
+    let known = is_file(n);
     row.names & !known
+}
+
+// What the access decision's answer says of places 8 and 9.
+fn is_never(access: Access) -> bool
+    ensures { λ r. ⌜ r ≡ isNever access ⌝ }
+{
+    match access {
+        Access::Never => true,
+        Access::NotGranted => false,
+        Access::FreeOnly => false,
+        Access::ByKey => false,
+    }
+}
+
+fn is_not_granted(access: Access) -> bool
+    ensures { λ r. ⌜ r ≡ isNotGranted access ⌝ }
+{
+    match access {
+        Access::Never => false,
+        Access::NotGranted => true,
+        Access::FreeOnly => false,
+        Access::ByKey => false,
+    }
 }
 
 pub fn other_kind_or_never(ins: u8, n: u8, access: Access) -> bool
@@ -49,7 +81,7 @@ pub fn other_kind_or_never(ins: u8, n: u8, access: Access) -> bool
 {
     let row = Row::of_command(ins);
     let suited = columns::suits_file(ins, n);
-    let never = access.is_never();
+    let never = is_never(access);
     row.file & (!suited | never)
 }
 
@@ -57,7 +89,7 @@ pub fn not_granted(ins: u8, access: Access) -> bool
     ensures { λ r. ⌜ r ≡ notGranted ins access ⌝ }
 {
     let row = Row::of_command(ins);
-    let refused = access.is_not_granted();
+    let refused = is_not_granted(access);
     row.file & refused
 }
 

@@ -3,7 +3,6 @@ use card::Card;
 use limits::Limits;
 use settings::Settings;
 ghost use mathlib.Core.Path.{_≡_};
-ghost use mathlib.Core.Bool.{true, false};
 ghost use Rattle.desk.specs.Program.{programCard, programDesk};
 
 // A card on the desk, the length of the reply buffer lent to its commands, and whether lettered lines are taken.
@@ -35,25 +34,14 @@ impl Desk {
         reply.card
     }
 
-    // The program's card, and lines of digits alone.
-    pub fn transcript() -> Desk
-        ensures { λ r. ⌜ r ≡ programDesk false ⌝ }
+    // The program's card; lettered lines are taken on the bench alone.
+    pub fn program(bench: bool) -> Desk
+        ensures { λ r. ⌜ r ≡ programDesk bench ⌝ }
     {
         Desk {
             card: Desk::program_card(),
             room: Card::REPLY_ROOM,
-            bench: false,
-        }
-    }
-
-    // The program's card, and lettered lines too.
-    pub fn bench() -> Desk
-        ensures { λ r. ⌜ r ≡ programDesk true ⌝ }
-    {
-        Desk {
-            card: Desk::program_card(),
-            room: Card::REPLY_ROOM,
-            bench: true,
+            bench,
         }
     }
 }

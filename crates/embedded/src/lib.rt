@@ -16,7 +16,7 @@ pub extern "C" fn amberdrone_bench(script: &[u8], out: &mut [u8], read: &mut usi
     ensures { λ r. ⌜ Shows (went (programDesk true) (linesAfter [] (now (script .entry))) (length (now (out .entry))) .out) (now (out .entry)) (now (out .exit)) r ⌝ }
     ensures { λ r. ⌜ now (read .exit) ≡ went (programDesk true) (linesAfter [] (now (script .entry))) (length (now (out .entry))) .read ⌝ }
 {
-    let desk = Desk::bench();
+    let desk = Desk::program(true);
     let went = script::run(desk, script, out);
     *read = went.read;
     went.written

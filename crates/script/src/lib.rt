@@ -8,6 +8,7 @@ ghost use mathlib.Core.List.{[], _∷_, _++_};
 ghost use Prim.Native.Nat.{_-_, _≤_, _<_};
 ghost use lib.ListN.{length, getD};
 ghost use Rattle.wire.specs.Bytes.{Shows};
+ghost use Rattle.answers.specs.Answers.{refusalText};
 ghost use Rattle.text.specs.Shown.{inRoom, Adds};
 ghost use Rattle.script.specs.Run.{linesAfter, went, Goes};
 ghost use Rattle.script.specs.RunLaws.{Lines, NoCommand};
@@ -78,6 +79,16 @@ fn say(desk: Desk, line: &[u8], bytes: &mut [u8]) -> Told
     }
 }
 
+// `!` and a number, and nothing for 0.
+fn put_number_but_0(n: u8, answer: &mut [u8]) -> usize
+    ensures { λ r. ⌜ Shows (inRoom (length (now (answer .entry))) (refusalText n)) (now (answer .entry)) (now (answer .exit)) r ⌝ }
+{
+    if n == 0 {
+        return 0;
+    }
+    answers::put_number(n, answer)
+}
+
 // Lays an answer over the front of text, and answers the number of its characters.
 fn put_text(answer: Answer, card: Card, text: &mut [u8]) -> usize
     requires { ⌜ 96 ≤ length (now text) ⌝ }
@@ -93,7 +104,7 @@ fn put_text(answer: Answer, card: Card, text: &mut [u8]) -> usize
             return answers::put_number(n, text);
         }
         Answer::Refusal(n) => {
-            return answers::put_number_but_0(n, text);
+            return put_number_but_0(n, text);
         }
         Answer::Books => {
             let session = card.session;

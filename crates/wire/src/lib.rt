@@ -2,7 +2,7 @@
 ghost use mathlib.Core.Path.{_≡_};
 ghost use Prim.Native.Nat.{_+_, _≤_};
 ghost use lib.ListN.{length, getD};
-ghost use Rattle.wire.specs.Bytes.{laid, laidIn, outsideOf, le3, le4, four, word};
+ghost use Rattle.wire.specs.Bytes.{laid, laidIn, outsideOf, le3, le4};
 
 // The byte at i, or 0 past the end.
 pub fn byte_at(s: &[u8], i: usize) -> u8
@@ -69,23 +69,4 @@ pub fn lay(dst: &mut [u8], at: usize, src: &[u8])
         return;
     }
     copy(dst, at, src);
-}
-
-// The four bytes of v, least significant first.
-pub fn four_of(v: u32) -> [u8; 4]
-    ensures { λ r. ⌜ r ≡ four v ⌝ }
-{
-    [
-        (v % 256) as u8,
-        (v / 256 % 256) as u8,
-        (v / 65536 % 256) as u8,
-        (v / 16777216 % 256) as u8,
-    ]
-}
-
-// The two bytes of a status word, most significant first.
-pub fn word_of(s: u16) -> [u8; 2]
-    ensures { λ r. ⌜ r ≡ word s ⌝ }
-{
-    [(s / 256) as u8, (s % 256) as u8]
 }

@@ -10,8 +10,8 @@ use mathlib.Core.Path.{sym, ap, _∙_}
 use native.Mathlib.Omega.{arith}
 use denote.Ref.{now}
 use borrow.Author.Needs.{needs}
-use Rattle.answers.proofs.put_number_but_0.Statement.{statement}
-use Rattle.answers.proofs.put_number_but_0.Tie as tie
+use Rattle.script.proofs.put_number_but_0.Statement.{statement}
+use Rattle.script.proofs.put_number_but_0.Tie as tie
 
 returns : tie.Need-returns
 unfolding refusalText

@@ -1,6 +1,6 @@
 use Rattle.columns.specs.Table.{isFile}
-use Rattle.columns.proofs.is_file.Statement.{statement}
-use Rattle.columns.proofs.is_file.Tie as tie
+use Rattle.commands.proofs.rows.is_file.Statement.{statement}
+use Rattle.commands.proofs.rows.is_file.Tie as tie
 
 is-data-requires : tie.Need-is-data-requires
 is-data-requires c κs = tt

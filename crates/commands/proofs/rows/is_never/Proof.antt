@@ -1,7 +1,7 @@
 use mathlib.Core.Path.{sym, ap}
 use Rattle.access.specs.Rights.{isNever}
-use Rattle.access.proofs.Access.is_never.Statement.{statement}
-use Rattle.access.proofs.Access.is_never.Tie as tie
+use Rattle.commands.proofs.rows.is_never.Statement.{statement}
+use Rattle.commands.proofs.rows.is_never.Tie as tie
 
 enum-told : tie.Need-enum-told
 enum-told c = c .match .keys1
