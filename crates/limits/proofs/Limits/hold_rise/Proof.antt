@@ -1,24 +1,25 @@
--- `limits::Limits::hold_rise` meets its contract: the sum fits 64 bits. Assumes nothing.
+-- `limits::Limits::hold_rise` meets its contract, by the law of a rise. Assumes nothing.
 use borrow.Author.Needs.{needs}
-use Rattle.whole.specs.Moves.{risen}
+use mir.Syntax.{w32}
+use mir.Val.{SFits}
+use mir.Facts.{toZ-ofZ}
+use Rattle.limits.proofs.Headroom.{rise}
 use Rattle.limits.proofs.Limits.hold_rise.Statement.{statement}
 use Rattle.limits.proofs.Limits.hold_rise.Tie as tie
 
-cast-hold-wide : tie.Need-cast-hold-wide
-cast-hold-wide c = risen (c .fits .from) (c .fits .amount) .from
+gap-requires : tie.Need-gap-requires
+gap-requires c κs = tt
 
-cast-hold-wide-2 : tie.Need-cast-hold-wide-2
-cast-hold-wide-2 c = search needs
-
-add-hold-wide : tie.Need-add-hold-wide
-add-hold-wide c = risen (c .fits .from) (c .fits .amount) .fits
-
-hold-wide-requires : tie.Need-hold-wide-requires
-hold-wide-requires c κs = search needs
+gap-requires-2 : tie.Need-gap-requires-2
+gap-requires-2 c κs = tt
 
 returns : tie.Need-returns
-returns c = rw (risen (c .before .fits .from) (c .before .fits .amount) .to) at (c .hold-wide .ensures)
+returns c =
+    let g = c .before .before in
+    let s = g .before .before .before .before in
+    let fl : SFits w32 (s .args .self .lower) = search needs in
+    let fu : SFits w32 (s .args .self .upper) = search needs in
+    rw (g .before .before .gap .ensures, g .gap2 .ensures, toZ-ofZ fl, toZ-ofZ fu, toZ-ofZ (s .fits .from)) (rise (s .args .self) (s .args .from) (s .args .amount))
 
 pub hold-rise-spec : {M : Type 1} → statement M
-hold-rise-spec =
-    tie.close (tie.spec cast-hold-wide cast-hold-wide-2 add-hold-wide hold-wide-requires returns)
+hold-rise-spec = tie.close (tie.spec gap-requires gap-requires-2 returns)
