@@ -60,11 +60,18 @@ impl Settings {
     pub fn has_wrong_rights(self) -> bool
         ensures { λ r. ⌜ r ≡ rightsBroken self ⌝ }
     {
-        let r00 = access::rights_are_sound(self.r00);
-        let r04 = access::rights_are_sound(self.r04);
-        let r1f = access::rights_are_sound(self.r1f);
-        let r03 = access::rights_are_sound(self.r03);
-        let r01 = access::rights_are_sound(self.r01);
-        !r00 | !r04 | !r1f | !r03 | !r01
+        if !access::rights_are_sound(self.r00) {
+            return true;
+        }
+        if !access::rights_are_sound(self.r04) {
+            return true;
+        }
+        if !access::rights_are_sound(self.r1f) {
+            return true;
+        }
+        if !access::rights_are_sound(self.r03) {
+            return true;
+        }
+        !access::rights_are_sound(self.r01)
     }
 }
