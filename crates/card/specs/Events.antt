@@ -19,13 +19,31 @@ use Rattle.settings.specs.declared.Settings.{Settings}
 use Rattle.settings.specs.Settings.{rightsBroken}
 use Rattle.commands.specs.State.{State}
 use Rattle.commands.specs.Rows.{ok, statusOf}
-use Rattle.effects.specs.Effects.{changed, shown}
+use Rattle.effects.specs.Effects.{purseAfter, journalAfter, filesAfter}
+use Rattle.replies.specs.Replies.{shownOf}
 use Rattle.card.specs.declared.Card.{Card}
 use Rattle.card.specs.View.{view, put}
 use Rattle.card.specs.Rules.{broken}
 use Rattle.card.specs.Outcome.{Outcome, bench}
 
 -- ---- a command
+
+-- an accepted command; the session stays
+unfoldable pub changed : State → ℕ → List ℕ → State
+changed s i d =
+    record {
+      core = record {
+        settings = s .core .settings;
+        purse = purseAfter i d (s .core .purse);
+        journal = journalAfter i d (s .core .journal);
+        session = s .core .session;
+      };
+      files = filesAfter i d (s .files);
+    }
+
+-- the data of its reply
+abbrev pub shown : State → ℕ → List ℕ → List ℕ
+shown s i d = shownOf (s .core .settings) (s .files) (s .core .purse) (s .core .journal) i d
 
 -- a refusal, and a power-up: session ended, pending work dropped
 unfoldable pub ended : State → State

@@ -24,15 +24,16 @@ use Rattle.frames.specs.Frame.{insOf, dataOf}
 use Rattle.settings.specs.declared.Settings.{Settings}
 use Rattle.commands.specs.State.{State}
 use Rattle.commands.specs.Rows.{ok, statusOf, commandStatus}
-use Rattle.effects.specs.Effects.{purseAfter, journalAfter, filesAfter, changed, shown}
-use Rattle.effects.specs.Guarded.{purseIn, shownIn}
-use Rattle.effects.specs.Laws.{purse-accepted, shown-accepted, shown-small, shows-changes-nothing, quiet-shows-nothing}
+use Rattle.effects.specs.Effects.{purseAfter, journalAfter, filesAfter}
+use Rattle.effects.specs.Guarded.{purseIn}
+use Rattle.replies.specs.Guarded.{shownIn}
 use Rattle.card.specs.declared.Card.{Card}
 use Rattle.card.specs.declared.Reply.{Reply}
 use Rattle.card.specs.View.{view, put}
 use Rattle.card.specs.Rules.{rules, brokenBy, broken}
 use Rattle.card.specs.Outcome.{Outcome, replyOf, Answered, bench}
-use Rattle.card.specs.Events.{ended, refused, accepted, played, laidInto, replyRoom, commanded, withSession, sessionChanged, poweredUp, issued, blank, orderRefusal, personalised}
+use Rattle.card.specs.Events.{changed, shown, ended, refused, accepted, played, laidInto, replyRoom, commanded, withSession, sessionChanged, poweredUp, issued, blank, orderRefusal, personalised}
+use Rattle.card.specs.Accepted.{purse-accepted, shown-accepted, shown-small, shows-changes-nothing, quiet-shows-nothing}
 
 -- a card is the state that it stands for, laid into it
 pub put-view : (c : Card) → put c (view c) ≡ c

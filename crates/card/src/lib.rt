@@ -16,11 +16,10 @@ ghost use lib.ListN.{length};
 ghost use Rattle.commands.specs.Rows.{commandStatus, ok};
 ghost use Rattle.wire.specs.Bytes.{laidIn, word};
 ghost use Rattle.columns.specs.Table.{writeData, shows};
-ghost use Rattle.effects.specs.Effects.{changed};
 ghost use Rattle.card.specs.View.{coreOf, view, put};
 ghost use Rattle.card.specs.Rules.{brokenBy, broken};
 ghost use Rattle.card.specs.Outcome.{replyOf, Answered};
-ghost use Rattle.card.specs.Events.{ended, accepted, laidInto, replyRoom, commanded, sessionChanged, poweredUp, issued, blank, orderRefusal, personalised};
+ghost use Rattle.card.specs.Events.{changed, ended, accepted, laidInto, replyRoom, commanded, sessionChanged, poweredUp, issued, blank, orderRefusal, personalised};
 ghost use Rattle.card.specs.Order.{frameOrder, commandOrder, checkedOf};
 
 pub struct Card {
@@ -258,7 +257,7 @@ impl Card {
         let files = self.files;
         let purse = self.purse;
         let log = self.log;
-        let n = effects::show(settings, files, purse, log, ins, d, reply);
+        let n = replies::show(settings, files, purse, log, ins, d, reply);
         let two = Card::word_of(Card::OK);
         wire::lay(reply, n, &two);
         Reply {

@@ -22,6 +22,7 @@ use Rattle.settings.specs.Settings as settings
 use Rattle.commands.specs.State as state
 use Rattle.commands.specs.Rows as rows
 use Rattle.effects.specs.Effects as effects
+use Rattle.replies.specs.Replies.{shownOf}
 use Rattle.card.specs.View as card
 use Rattle.card.specs.Rules as rules
 use Rattle.card.specs.Outcome as outcomes
@@ -45,7 +46,7 @@ program =
 
 -- the replies along a history of the program's card; to unfold this is to unfold all that a computed reply needs
 unfoldable pub replies : List Event → List Said
-unfolding pick laid laidIn outsideOf le3 le4 four word files.sizeOf files.bytesOf files.zeros files.endOf files.shown files.written crossed within purse.resting purse.credited purse.debited purse.rebooked purse.settled purse.dropped purse-rules.unequal purse-rules.broken journal.blank journal.joined journal.shown journal.freshOr journal.written journal.cleared journal.pushed journal.resting journal.settled journal.dropped log.cut log.view log.some log.put log.empty log.broken access.rightsSound access.sealed access.granting access.accessOf frame.wrongSize frame.wrongClass frame.wrongParameters frame.wrongFrame table.onFile table.namesFile table.isFile table.suits settings.rightsOf settings.accessTo settings.rightsBroken state.logPending rows.unknownCommand rows.lengthCases rows.unknownFile rows.otherKindOrNever rows.notGranted rows.switchedOff rows.parameterCases rows.ranged rows.roomOf rows.amountCases rows.outside rows.nothingPending rows.rowsOf rows.statusOf effects.purseAfter effects.journalAfter effects.filesAfter effects.changed effects.shown card.view card.put rules.brokenBy outcomes.replyOf outcomes.bench events.ended events.refused events.accepted events.played events.laidInto events.commanded events.withSession events.sessionChanged events.poweredUp events.issued outcome said along run program
+unfolding pick laid laidIn outsideOf le3 le4 four word files.sizeOf files.bytesOf files.zeros files.endOf files.shown files.written crossed within purse.resting purse.credited purse.debited purse.rebooked purse.settled purse.dropped purse-rules.unequal purse-rules.broken journal.blank journal.joined journal.shown journal.freshOr journal.written journal.cleared journal.pushed journal.resting journal.settled journal.dropped log.cut log.view log.some log.put log.empty log.broken access.rightsSound access.sealed access.granting access.accessOf frame.wrongSize frame.wrongClass frame.wrongParameters frame.wrongFrame table.onFile table.namesFile table.isFile table.suits settings.rightsOf settings.accessTo settings.rightsBroken state.logPending rows.unknownCommand rows.lengthCases rows.unknownFile rows.otherKindOrNever rows.notGranted rows.switchedOff rows.parameterCases rows.ranged rows.roomOf rows.amountCases rows.outside rows.nothingPending rows.rowsOf rows.statusOf effects.purseAfter effects.journalAfter effects.filesAfter shownOf card.view card.put rules.brokenBy outcomes.replyOf outcomes.bench events.changed events.ended events.refused events.accepted events.played events.laidInto events.commanded events.withSession events.sessionChanged events.poweredUp events.issued outcome said along run program
 replies es = along next said (events.issued program (pos 100)) es
 
 -- the books over such a history

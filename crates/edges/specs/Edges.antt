@@ -19,12 +19,13 @@ use Rattle.columns.specs.Table.{onFile, namesFile, isFile, suits}
 use Rattle.settings.specs.Settings.{rightsOf, accessTo, rightsBroken}
 use Rattle.commands.specs.State.{logPending}
 use Rattle.commands.specs.Rows.{unknownCommand, lengthCases, unknownFile, otherKindOrNever, notGranted, switchedOff, parameterCases, ranged, roomOf, amountCases, outside, nothingPending, rowsOf, statusOf}
-use Rattle.effects.specs.Effects.{purseAfter, journalAfter, filesAfter, changed, shown}
+use Rattle.effects.specs.Effects.{purseAfter, journalAfter, filesAfter}
+use Rattle.replies.specs.Replies.{shownOf}
 use Rattle.card.specs.declared.Card.{Card}
 use Rattle.card.specs.View.{view, put}
 use Rattle.card.specs.Rules.{brokenBy}
 use Rattle.card.specs.Outcome.{bench}
-use Rattle.card.specs.Events.{ended, refused, accepted, played, laidInto, commanded, issued, blankSettings, blank, orderRefusal, personalised}
+use Rattle.card.specs.Events.{changed, ended, refused, accepted, played, laidInto, commanded, issued, blankSettings, blank, orderRefusal, personalised}
 
 -- frames sent one after the other to a new card, the replies, and the log's entries at the end
 pub record Edge : Type 0 where
@@ -140,5 +141,5 @@ pub expected : Edge → Seen
 expected e = record { replies = e .replies; entries = e .entries }
 
 pub edges-answered : map answered edges ≡ map expected edges
-unfolding answered expected edges played-on settings pick laid laidIn outsideOf le3 le4 four word files.sizeOf files.bytesOf files.zeros files.endOf files.shown files.written crossed within purse.resting purse.credited purse.debited purse.rebooked purse.settled purse.dropped figures.unequal figures.broken journal.blank journal.joined journal.shown journal.freshOr journal.written journal.cleared journal.pushed journal.resting journal.settled journal.dropped log.cut log.view log.some log.put log.broken log.empty rightsSound sealed granting accessOf wrongSize wrongClass wrongParameters wrongFrame onFile namesFile isFile suits rightsOf accessTo logPending rightsBroken unknownCommand lengthCases unknownFile otherKindOrNever notGranted switchedOff parameterCases ranged roomOf amountCases outside nothingPending rowsOf statusOf purseAfter journalAfter filesAfter changed shown view put brokenBy bench ended refused accepted played laidInto commanded issued blankSettings blank orderRefusal personalised
+unfolding answered expected edges played-on settings pick laid laidIn outsideOf le3 le4 four word files.sizeOf files.bytesOf files.zeros files.endOf files.shown files.written crossed within purse.resting purse.credited purse.debited purse.rebooked purse.settled purse.dropped figures.unequal figures.broken journal.blank journal.joined journal.shown journal.freshOr journal.written journal.cleared journal.pushed journal.resting journal.settled journal.dropped log.cut log.view log.some log.put log.broken log.empty rightsSound sealed granting accessOf wrongSize wrongClass wrongParameters wrongFrame onFile namesFile isFile suits rightsOf accessTo logPending rightsBroken unknownCommand lengthCases unknownFile otherKindOrNever notGranted switchedOff parameterCases ranged roomOf amountCases outside nothingPending rowsOf statusOf purseAfter journalAfter filesAfter changed shownOf view put brokenBy bench ended refused accepted played laidInto commanded issued blankSettings blank orderRefusal personalised
 edges-answered = refl

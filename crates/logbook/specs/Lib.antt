@@ -1,6 +1,5 @@
 pub mod Journal
 pub mod View
-pub mod Range
 pub mod Fit
 pub mod Entries
 pub mod Laws

@@ -4,10 +4,10 @@ use mathlib.Core.List.{List, [], _∷_}
 use mathlib.Core.Bool.{Bool, true, false, _&&_, _||_}
 use lib.Dec.{ltb}
 use lib.ListN.{length, take, drop, replicate}
-use Rattle.tables.specs.Choice.{pick, any}
-use Rattle.wire.specs.Bytes.{laid, outsideOf}
+use Rattle.tables.specs.Choice.{pick}
+use Rattle.wire.specs.Bytes.{laid}
 use Rattle.logbook.specs.declared.Log.{Log}
-use Rattle.logbook.specs.Journal.{Journal, entrySize, mostEntries, blank, joined, shown, freshOr}
+use Rattle.logbook.specs.Journal.{Journal, entrySize, mostEntries, blank, joined, freshOr}
 
 -- the first n entries of the bytes bs
 unfoldable pub cut : ℕ → List ℕ → List (List ℕ)
@@ -40,7 +40,3 @@ empty = record { slots = replicate 64 0; count = 0; entry = blank; adds = false;
 -- a standing rule of the log is broken: at most four entries; no new entry beside a clear
 unfoldable pub broken : Log → Bool
 broken l = ltb mostEntries (l .count) || (l .adds && l .clears)
-
--- what a read lays into a buffer of this room: nothing where the range is outside the log, or the room or the log unfit
-unfoldable pub shownIn : ℕ → Log → ℕ → ℕ → List ℕ
-shownIn room l r c = pick (any (ltb room 64 ∷ ltb mostEntries (l .count) ∷ outsideOf (l .count) r c ∷ [])) [] (shown (view l) r c)

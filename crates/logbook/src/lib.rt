@@ -1,14 +1,9 @@
 // The cyclic log: four slots of 16 bytes, the newest entry in front, and what is pending on them.
-ghost use Prim.Native.Nat.{_+_, _-_, _<_, _≤_, min};
+ghost use Prim.Native.Nat.{min};
 ghost use mathlib.Core.List.{[], _∷_};
 ghost use mathlib.Core.Path.{_≡_};
-ghost use lib.Dec.{eqb};
-ghost use lib.ListN.{length};
-ghost use Rattle.tables.specs.Choice.{pick};
-ghost use Rattle.wire.specs.Bytes.{laid};
 ghost use Rattle.logbook.specs.Journal.{blank, freshOr, pushed, resting, written, cleared, settled, dropped};
-ghost use Rattle.logbook.specs.View.{view, put, empty, broken, shownIn};
-ghost use Rattle.logbook.specs.Range.{oldestFirst};
+ghost use Rattle.logbook.specs.View.{view, put, empty, broken};
 
 pub struct Log {
     // Committed entries: the first count slots.
@@ -18,21 +13,6 @@ pub struct Log {
     pub entry: [u8; Log::ENTRY],
     pub adds: bool,
     pub clears: bool,
-}
-
-// Lays number entries from entry first on over the front of reply, the oldest leading.
-fn lay_entries(slots: &[u8], first: usize, number: usize, reply: &mut [u8]) -> usize
-    requires { ⌜ (length (now slots) ≡ 64) × (first + number ≤ 4) × (64 ≤ length (now reply)) ⌝ }
-    ensures { λ r. ⌜ (now (reply .exit) ≡ laid (now (reply .entry)) 0 (oldestFirst (now (slots .entry)) first number)) × (r ≡ length (oldestFirst (now (slots .entry)) first number)) ⌝ }
-{
-    let end = first + number;
-    let mut k = 0;
-    while k < number {
-        let i = Log::ENTRY * (end - (k + 1));
-        wire::lay(reply, Log::ENTRY * k, &slots[i..i + Log::ENTRY]);
-        k += 1;
-    }
-    Log::ENTRY * number
 }
 
 impl Log {
@@ -56,35 +36,6 @@ impl Log {
             adds: false,
             clears: false,
         }
-    }
-
-    // The number of entries that a read of count from entry first on shows: all of them where count is 0.
-    fn span(self, first: u32, count: u32) -> usize
-        requires { ⌜ (first < self .count) × (first + count ≤ self .count) ⌝ }
-        ensures { λ r. ⌜ (r ≡ pick (eqb count 0) (self .count - first) count) × (first + r ≤ self .count) ⌝ }
-    {
-        if count == 0 {
-            return self.count as usize - first as usize;
-        }
-        count as usize
-    }
-
-    // Lays a read of count entries from entry first on over the front of reply, and answers its length.
-    pub fn show(self, first: u32, count: u32, reply: &mut [u8]) -> usize
-        ensures { λ r. ⌜ (now (reply .exit) ≡ laid (now (reply .entry)) 0 (shownIn (length (now (reply .entry))) self first count)) × (r ≡ length (shownIn (length (now (reply .entry))) self first count)) ⌝ }
-    {
-        if reply.len() < Log::SLOTS {
-            return 0;
-        }
-        if Self::MOST < self.count {
-            return 0;
-        }
-        if wire::is_outside(self.count as usize, first, count) {
-            return 0;
-        }
-        let slots = self.slots;
-        let number = self.span(first, count);
-        lay_entries(&slots, first as usize, number, reply)
     }
 
     // The new entry as it stands: one of zeros, where there is none yet.

@@ -14,8 +14,8 @@ use Rattle.columns.specs.Table.{commitTransaction}
 use Rattle.commands.specs.State.{State}
 use Rattle.commands.specs.Rows.{ok, statusOf, commandStatus}
 use Rattle.commands.specs.Laws.{command-ok}
-use Rattle.effects.specs.Effects.{purseAfter, journalAfter, changed}
-use Rattle.card.specs.Events.{ended, refused, accepted, played, withSession}
+use Rattle.effects.specs.Effects.{purseAfter, journalAfter}
+use Rattle.card.specs.Events.{changed, ended, refused, accepted, played, withSession}
 use Rattle.demands.specs.Strike.{Line, broken, strike, part, through}
 use Rattle.demands.specs.Books.{Op, valueAfter, Books, booked}
 use Rattle.demands.specs.History.{Event, command, session, power, run, along, bookLine, lineBy, booksOf}

@@ -16,8 +16,8 @@ use Rattle.columns.specs.Table.{writeData, isData}
 use Rattle.commands.specs.State.{State}
 use Rattle.commands.specs.Rows.{ok, statusOf, commandStatus}
 use Rattle.commands.specs.Laws.{command-ok}
-use Rattle.effects.specs.Effects.{filesAfter, changed}
-use Rattle.card.specs.Events.{ended, refused, accepted, played, withSession}
+use Rattle.effects.specs.Effects.{filesAfter}
+use Rattle.card.specs.Events.{changed, ended, refused, accepted, played, withSession}
 use Rattle.demands.specs.Strike.{Line, posted, broken, idle, posts, through}
 use Rattle.demands.specs.DataFiles.{Write, stored}
 use Rattle.demands.specs.History.{Event, command, session, power, run, along, fileLine, lineBy}

@@ -28,8 +28,8 @@ use Rattle.settings.specs.Settings.{rightsBroken}
 use Rattle.commands.specs.State.{Core, State, logPending}
 use Rattle.commands.specs.Rows.{rowsOf, switchedOff, ok, commandStatus}
 use Rattle.commands.specs.Laws.{command-clear, inside, credit-inside, debit-inside, rebook-inside}
-use Rattle.effects.specs.Effects.{purseAfter, journalAfter, filesAfter, changed}
-use Rattle.card.specs.Events.{ended, withSession}
+use Rattle.effects.specs.Effects.{purseAfter, journalAfter, filesAfter}
+use Rattle.card.specs.Events.{changed, ended, withSession}
 use Rattle.demands.specs.Laws.Names.{by-name, purse-other, journal-other}
 
 pub record Sized (f : Files) : Type 0 where

@@ -16,13 +16,12 @@ use Rattle.logbook.specs.View as log
 use Rattle.frames.specs.Frame.{insOf, dataOf}
 use Rattle.commands.specs.Rows.{rowsOf, ok, statusOf}
 use Rattle.commands.specs.Laws.{command-ok}
-use Rattle.effects.specs.Effects.{shown}
-use Rattle.effects.specs.Laws.{shown-small}
+use Rattle.card.specs.Accepted.{shown-small}
 use Rattle.card.specs.declared.Card.{Card}
 use Rattle.card.specs.declared.Reply.{Reply}
 use Rattle.card.specs.View.{view, put}
 use Rattle.card.specs.Outcome.{replyOf, Answered, bench}
-use Rattle.card.specs.Events.{ended, refused, accepted, played, laidInto, commanded}
+use Rattle.card.specs.Events.{shown, ended, refused, accepted, played, laidInto, commanded}
 use Rattle.card.specs.Laws.{answered-as, command-plays, command-short}
 use Rattle.demands.specs.History.{booksOf}
 use Rattle.demands.specs.Demands.{Kept, statuses, among, Untouched, Replied, Demand1}

@@ -14,11 +14,10 @@ use Rattle.access.specs.declared.Session.the-variants.{Nobody}
 use Rattle.settings.specs.declared.Settings.{Settings}
 use Rattle.commands.specs.State.{State, logPending}
 use Rattle.commands.specs.Rows.{ok, statusOf}
-use Rattle.effects.specs.Effects.{changed}
 use Rattle.card.specs.declared.Card.{Card}
 use Rattle.card.specs.View.{view}
 use Rattle.card.specs.Outcome.{Outcome, replyOf}
-use Rattle.card.specs.Events.{Played, ended, refused, accepted, played, laidInto, withSession, issued}
+use Rattle.card.specs.Events.{changed, Played, ended, refused, accepted, played, laidInto, withSession, issued}
 use Rattle.demands.specs.Strike.{Line, posts, through}
 use Rattle.demands.specs.Books.{booked}
 use Rattle.demands.specs.DataFiles.{Write, filed, stored}

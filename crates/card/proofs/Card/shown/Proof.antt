@@ -5,8 +5,8 @@ use denote.Ref.{now}
 use native.Mathlib.Omega.{arith}
 use mathlib.Core.Path.{_≡_}
 use Rattle.wire.specs.Bytes.{Shows}
-use Rattle.effects.specs.Guarded.{shownIn}
-use Rattle.effects.specs.Effects.{shown}
+use Rattle.replies.specs.Guarded.{shownIn}
+use Rattle.card.specs.Events.{shown}
 use Rattle.card.specs.View.{view}
 use Rattle.card.specs.Laws.{accepted-shows, shown-answers}
 use borrow.Author.Needs.{needs}

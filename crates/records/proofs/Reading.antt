@@ -10,13 +10,13 @@ use lib.Seq.{drop-drop, length-take-le}
 use native.Mathlib.Numerals.{add-one}
 use native.Mathlib.Omega.{arith}
 use Rattle.tables.specs.Choice.{pick, any, picked, passed, or-no, or-none, or-left, or-right}
-use Rattle.wire.specs.Bytes.{part, laid, laidIn, outsideOf}
+use Rattle.wire.specs.Bytes.{part, laid, laidIn, outsideOf, Shows}
 use Rattle.wire.specs.Laws.{laid-none, laid-room, laid-behind, length-laid}
 use Rattle.logbook.specs.declared.Log.{Log}
 use Rattle.logbook.specs.Journal.{joined, shown}
-use Rattle.logbook.specs.View.{cut, view, shownIn}
-use Rattle.logbook.specs.Range.{oldestFirst}
+use Rattle.logbook.specs.View.{cut, view}
 use Rattle.logbook.specs.Entries.{length-cut, cut-range}
+use Rattle.records.specs.Shown.{oldestFirst, shownIn}
 
 -- ---- the loop
 
@@ -82,28 +82,24 @@ inside size off len e =
 pub at-most : {n m k : ℕ} → n ≤ m → m ≤ k → n ≤ k
 at-most a b = omega arith
 
--- what a read leaves of the buffer b, and the length that it answers
-abbrev pub Shown : List ℕ → List ℕ → Log → ℕ → ℕ → ℕ → Type 0
-Shown b after l r c n = (after ≡ laid b 0 (shownIn (length b) l r c)) × (n ≡ length (shownIn (length b) l r c))
-
 module _ (b : List ℕ) (l : Log) (r c : ℕ) where
   -- nothing is shown where one of the tests holds
-  shows-nothing : any (ltb (length b) 64 ∷ ltb 4 (l .count) ∷ outsideOf (l .count) r c ∷ []) ≡ true → Shown b b l r c 0
+  shows-nothing : any (ltb (length b) 64 ∷ ltb 4 (l .count) ∷ outsideOf (l .count) r c ∷ []) ≡ true → Shows (shownIn (length b) l r c) b b 0
   unfolding shownIn
   shows-nothing h = rw (picked [] (shown (view l) r c) h) (laid-none b, refl)
 
-  pub shows-in-no-room : length b < 64 → Shown b b l r c 0
+  pub shows-in-no-room : length b < 64 → Shows (shownIn (length b) l r c) b b 0
   shows-in-no-room h = shows-nothing (or-left (ltb (length b) 64 || ltb 4 (l .count)) (outsideOf (l .count) r c) (or-left (ltb (length b) 64) (ltb 4 (l .count)) (lt-ltb _ _ h)))
 
-  pub shows-of-too-many : 4 < l .count → Shown b b l r c 0
+  pub shows-of-too-many : 4 < l .count → Shows (shownIn (length b) l r c) b b 0
   shows-of-too-many h = shows-nothing (or-left (ltb (length b) 64 || ltb 4 (l .count)) (outsideOf (l .count) r c) (or-right (ltb (length b) 64) (ltb 4 (l .count)) (lt-ltb _ _ h)))
 
-  pub shows-outside : outsideOf (l .count) r c ≡ true → Shown b b l r c 0
+  pub shows-outside : outsideOf (l .count) r c ≡ true → Shows (shownIn (length b) l r c) b b 0
   shows-outside h = shows-nothing (or-right (ltb (length b) 64 || ltb 4 (l .count)) (outsideOf (l .count) r c) h)
 
   -- else it is what the loop lays
   pub shows : (n : ℕ) → 64 ≤ length b → l .count ≤ 4 → outsideOf (l .count) r c ≡ false → (n ≡ pick (eqb c 0) (l .count - r) c) × (r + n ≤ l .count)
-      → {after : List ℕ} {size : ℕ} → (after ≡ laid b 0 (oldestFirst (l .slots) r n)) × (size ≡ length (oldestFirst (l .slots) r n)) → Shown b after l r c size
+      → {after : List ℕ} {size : ℕ} → (after ≡ laid b 0 (oldestFirst (l .slots) r n)) × (size ≡ length (oldestFirst (l .slots) r n)) → Shows (shownIn (length b) l r c) b after size
   unfolding shownIn shown view oldestFirst
   shows n big few o (q, h) (e, f) = (rw s e, rw s f)
     where

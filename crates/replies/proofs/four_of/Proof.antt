@@ -1,7 +1,7 @@
 use Rattle.wire.specs.Bytes.{four}
 use borrow.Author.Needs.{needs}
-use Rattle.effects.proofs.four_of.Statement.{statement}
-use Rattle.effects.proofs.four_of.Tie as tie
+use Rattle.replies.proofs.four_of.Statement.{statement}
+use Rattle.replies.proofs.four_of.Tie as tie
 
 cast-t3 : tie.Need-cast-t3
 cast-t3 c = search needs

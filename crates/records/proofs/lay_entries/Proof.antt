@@ -4,10 +4,10 @@ use native.Mathlib.Omega.{arith}
 use borrow.Author.Needs.{needs}
 use lib.ListN.{length}
 use Rattle.wire.specs.Bytes.{laid}
-use Rattle.logbook.specs.Range.{oldestFirst}
-use Rattle.logbook.proofs.Reading.{oldest-none, oldest-step, oldest-all}
-use Rattle.logbook.proofs.lay_entries.Statement.{statement}
-use Rattle.logbook.proofs.lay_entries.Tie as tie
+use Rattle.records.specs.Shown.{oldestFirst}
+use Rattle.records.proofs.Reading.{oldest-none, oldest-step, oldest-all}
+use Rattle.records.proofs.lay_entries.Statement.{statement}
+use Rattle.records.proofs.lay_entries.Tie as tie
 
 abbrev Inv-loop : tie.InvT-loop
 Inv-loop slots first number reply₀ end k₀ reply k = (k ≤ number) × (length reply ≡ length reply₀) × (reply ≡ laid reply₀ 0 (oldestFirst slots (end - k) k))

@@ -1,13 +1,13 @@
 use mir.Facts.{toZ-ofZ}
 use mir.Val.{SFits}
 use mir.Syntax.{w32}
-use Rattle.effects.specs.Guarded.{shownIn}
+use Rattle.replies.specs.Guarded.{shownIn}
 use Rattle.datafiles.specs.Files as files
 use Rattle.wire.specs.Laws.{shows-as, shows-none}
 use Rattle.tables.specs.Choice.{order}
 use borrow.Author.Needs.{needs}
-use Rattle.effects.proofs.show.Statement.{statement}
-use Rattle.effects.proofs.show.Tie as tie
+use Rattle.replies.proofs.show.Statement.{statement}
+use Rattle.replies.proofs.show.Tie as tie
 
 byte-at-requires : tie.Need-byte-at-requires
 byte-at-requires c κs = tt

@@ -25,6 +25,7 @@ use Rattle.logbook.specs.Journal as journal
 use Rattle.logbook.specs.View as log
 use Rattle.logbook.specs.Fit.{Fit}
 use Rattle.logbook.specs.FitLaws.{shown-room}
+use Rattle.records.specs.Shown as records
 use Rattle.frames.specs.Frame.{fileOf, offsetOf, lengthOf, amountOf}
 use Rattle.columns.specs.Table.{readData, getValue, credit, debit, limitedCredit, readRecords, getFileSettings, shows}
 use Rattle.description.specs.Description.{described, describedIn}
@@ -33,8 +34,11 @@ use Rattle.commands.specs.State.{Core, State}
 use Rattle.commands.specs.Rows.{outside, ok, commandStatus}
 use Rattle.commands.specs.PlacesLaws.{entries-view}
 use Rattle.commands.specs.Laws.{inside, read-inside, entries-inside, credit-inside, debit-inside, rebook-inside}
-use Rattle.effects.specs.Effects.{purseAfter, journalAfter, filesAfter, changed, shown}
-use Rattle.effects.specs.Guarded.{purseIn, valueIn, shownIn}
+use Rattle.effects.specs.Effects.{purseAfter, journalAfter, filesAfter}
+use Rattle.effects.specs.Guarded.{purseIn}
+use Rattle.replies.specs.Replies.{shownOf}
+use Rattle.replies.specs.Guarded.{valueIn, shownIn}
+use Rattle.card.specs.Events.{changed, shown}
 
 -- ---- the value file
 
@@ -83,8 +87,8 @@ module _ (room : ℕ) (s : State) (l : Log) (d : List ℕ) (j : s .core .journal
   value-shown v = passed _ _ (le-ltb room 4 (omega arith))
 
   entries-shown : outsideOf (length (s .core .journal .entries)) (offsetOf d) (lengthOf d) ≡ false
-      → log.shownIn room l (offsetOf d) (lengthOf d) ≡ journal.shown (s .core .journal) (offsetOf d) (lengthOf d)
-  unfolding log.shownIn log.broken
+      → records.shownIn room l (offsetOf d) (lengthOf d) ≡ journal.shown (s .core .journal) (offsetOf d) (lengthOf d)
+  unfolding records.shownIn log.broken
   entries-shown e =
       let o : outsideOf (l .count) (offsetOf d) (lengthOf d) ≡ false = rw (j, entries-view l) at e in
       let r = le-ltb room 64 (omega arith) in
@@ -97,7 +101,7 @@ module _ (room : ℕ) (s : State) (l : Log) (d : List ℕ) (j : s .core .journal
   settings-shown = rw (j, entries-view l) (passed _ _ (le-ltb room 17 (omega arith)))
 
   pub shown-accepted : (i : ℕ) → commandStatus (s .core) i d ≡ ok → shownIn room (s .core .settings) (s .files) (s .core .purse) l i d ≡ shown s i d
-  unfolding shownIn shown
+  unfolding shownIn shownOf
   shown-accepted i e =
       let c = s .core in
       let o = inside c i d e in
@@ -109,7 +113,7 @@ module _ (room : ℕ) (s : State) (l : Log) (d : List ℕ) (j : s .core .journal
 
 -- a reply's data is at most a whole file
 pub shown-small : (s : State) (i : ℕ) (d : List ℕ) → Fit (s .core .journal) → commandStatus (s .core) i d ≡ ok → length (shown s i d) ≤ 256
-unfolding shown
+unfolding shownOf
 shown-small s i d fit e =
     let c = s .core in
     let l = c .settings .limits in
@@ -137,7 +141,7 @@ module _ (s : State) (d : List ℕ) where
       by false false false d p q r s e = s e
 
   pub quiet-shows-nothing : (i : ℕ) → shows i ≡ false → shown s i d ≡ []
-  unfolding shown
+  unfolding shownOf
   quiet-shows-nothing i e =
       let n = none (eqb i readData ∷ eqb i getValue ∷ eqb i readRecords ∷ eqb i getFileSettings ∷ []) e in
       passed _ _ (n .0) ∙ passed _ _ (n .1 .0) ∙ passed _ _ (n .1 .1 .0) ∙ passed _ _ (n .1 .1 .1 .0)

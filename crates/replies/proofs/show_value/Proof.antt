@@ -1,4 +1,4 @@
-use Rattle.effects.specs.Guarded.{valueIn}
+use Rattle.replies.specs.Guarded.{valueIn}
 use Rattle.wire.specs.Laws.{laid-room, length-four, shows-as, shows-none}
 use Rattle.wire.specs.Bytes.{four}
 use Rattle.tables.specs.Choice.{choice}
@@ -9,8 +9,8 @@ use denote.Ref.{now}
 use native.Mathlib.Omega.{arith}
 use mathlib.Core.Path.{sym, _∙_}
 use borrow.Author.Needs.{needs}
-use Rattle.effects.proofs.show_value.Statement.{statement}
-use Rattle.effects.proofs.show_value.Tie as tie
+use Rattle.replies.proofs.show_value.Statement.{statement}
+use Rattle.replies.proofs.show_value.Tie as tie
 
 returns : tie.Need-returns
 unfolding valueIn
