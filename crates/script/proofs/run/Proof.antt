@@ -1,18 +1,20 @@
-use Rattle.script.specs.Lines.{lentRoom}
+use Rattle.script.specs.Lines.{Plays, lentRoom}
 use Rattle.script.specs.Laws.{lent-most, plays-lent, reply-bytes, told-desk}
+use Rattle.script.specs.RunLaws.{NoCommand}
 use Rattle.script.specs.Sofar.{Sofar, sofar-start, sofar-length, sofar-end, sofar-part, sofar-full, sofar-next, sofar-as}
-use Rattle.script.specs.Commands.{size-most, frame-size, command-inside, command-line, command-said, no-command}
+use Rattle.script.specs.Commands.{size-most, frame-size, command-inside, no-command}
 use Rattle.script.specs.Played.{played-full, played-next}
 use Rattle.card.specs.Events.{commanded}
 use Rattle.wire.specs.Bytes.{part}
 use borrow.Author.Needs.{needs}
 use denote.Ref.{now}
 use lib.Dec.{eqb, ltb}
-use lib.ListN.{length}
+use lib.ListN.{length, drop, getD}
 use lib.Seq.{length-front}
 use native.Mathlib.Omega.{arith}
-use Prim.Native.Nat.{ℕ, _-_, _<_}
-use mathlib.Core.Bool.{_&&_}
+use Prim.Native.Nat.{ℕ, _+_, _-_, _*_, _≤_, _<_}
+use mathlib.Core.Bool.{Bool, _&&_}
+use mathlib.Core.List.{List, _++_}
 use mathlib.Core.Path.{_≡_, sym, ap, _∙_}
 use Rattle.script.proofs.run.Statement.{statement}
 use Rattle.script.proofs.run.Tie as tie
@@ -23,6 +25,71 @@ Inv-loop desk₀ text out₀ frame₀ reply₀ at₀ n₀ desk out frame reply a
 
 abbrev μ-loop : tie.MeasureT-loop
 μ-loop desk₀ text out₀ frame₀ reply₀ at₀ n₀ desk out frame reply at n = length text - at
+
+-- ---- what the places of a turn know
+
+-- the digits at its place are spelt
+module _ (k : tie.After-spell Inv-loop μ-loop) where
+  abbrev turn : tie.In-loop Inv-loop μ-loop
+  turn = k .before .before .before
+
+  abbrev text : List ℕ
+  text = now (turn .before .before .before .before .args .text)
+
+  abbrev behind : ℕ
+  behind = turn .before .loop .at + 2 * k .spell .result
+
+  most : (k .spell .result ≤ 512) × (behind ≤ length text)
+  most = size-most text (turn .before .loop .at) (turn .before .loop .frame) _ _ (turn .before .loop .inv .0) (turn .loop-test .taken) (k .spell .ensures)
+
+  fits : k .spell .result ≤ length (k .spell .last .1 .0)
+  fits = frame-size text (turn .before .loop .at) (turn .before .loop .frame) _ _ (turn .before .loop .inv .0) (turn .loop-test .taken) (k .spell .ensures)
+
+-- whether LF ends them
+ends : (k : tie.After-byte-at Inv-loop μ-loop) {b : Bool} → (ltb 0 (k .before .before .spell .result) && eqb (k .byte-at .result) 0x0A) ≡ b
+    → (ltb 0 (k .before .before .spell .result) && eqb (getD (text (k .before .before)) (behind (k .before .before)) 0) 0x0A) ≡ b
+ends k e = ap (λ (c : ℕ). ltb 0 (k .before .before .spell .result) && eqb c 0x0A) (sym (k .byte-at .ensures)) ∙ e
+
+-- it does: the line is a command
+module _ (k : tie.Then1 Inv-loop μ-loop) where
+  abbrev spelling : tie.After-spell Inv-loop μ-loop
+  spelling = k .before .before .before
+
+  inside : behind spelling < length (text spelling)
+  inside = let i = turn spelling in command-inside (text spelling) (i .before .loop .at) (i .before .loop .frame) _ _ (i .before .loop .inv .0) (i .loop-test .taken) (spelling .spell .ensures) (ends (k .before) (k .if1 .taken))
+
+-- and the card has replied to it, into the front of its buffer
+module _ (k : tie.After-command Inv-loop μ-loop) where
+  abbrev line : tie.Then1 Inv-loop μ-loop
+  line = k .before .before .before .before .before .before
+
+  abbrev at-loop : tie.At-loop Inv-loop μ-loop
+  at-loop = turn (spelling line) .before
+
+  abbrev buffer : List ℕ
+  buffer = k .command .last .1 .1 .0 ++ drop (k .before .before .before .before .before .lent-room .result - 0) (at-loop .loop .reply)
+
+  buffer-length : length buffer ≡ 512
+  buffer-length = length-front (at-loop .loop .reply) (k .command .last .1 .1 .0) (k .before .before .before .before .before .lent-room .result - 0) (k .command .kept .1 .1 .0) ∙ at-loop .loop .inv .1
+
+  plays : Plays (commanded (at-loop .loop .desk .card) (part (spelling line .spell .last .1 .0) 0 (spelling line .spell .result)) (lentRoom (at-loop .loop .desk .room))) buffer (k .command .result)
+  plays =
+      plays-lent (at-loop .loop .desk .card) _ (at-loop .loop .reply) _ (at-loop .loop .desk .room) _ _ (k .before .before .before .before .before .lent-room .ensures) (omega (arith, at-loop .loop .inv .1)) (k .command .kept .1 .1 .0) (k .command .ensures)
+
+-- it does not: the line goes up to the next LF
+module _ (k : tie.Else3 Inv-loop μ-loop) where
+  abbrev spelt : tie.After-spell Inv-loop μ-loop
+  spelt = k .before .before .before .before .before
+
+  in-text : k .before .line-end .result < length (text spelt)
+  in-text = omega (arith, k .if3 .left, k .before .line-end .ensures .1)
+
+  other : NoCommand (part (text spelt) (turn spelt .before .loop .at) (k .before .line-end .result))
+  other = let l = k .before .line-end .ensures in
+      let v = turn spelt .before .loop in
+      no-command (text spelt) (v .at) (v .frame) _ _ (v .inv .0) (turn spelt .loop-test .taken) (spelt .spell .ensures) (ends (k .before .before .before) (k .before .before .if1 .left)) _ (l .0) in-text (l .3 in-text)
+
+-- ---- the needs
 
 loop-holds : tie.Need-loop-holds Inv-loop μ-loop
 loop-holds c = (search needs, search needs, sofar-start _ _ _)
@@ -43,22 +110,10 @@ spell-requires : tie.Need-spell-requires Inv-loop μ-loop
 spell-requires c κs = tt
 
 mul-behind : tie.Need-mul-behind Inv-loop μ-loop
-mul-behind c =
-    let a = c .before .before .before .before .before .before .before .before .args in
-    let v = c .before .before .before .before .before .loop in
-    let t = now (a .text) in
-    let w = c .before .spell in
-    let h = c .before .before .before .before .loop-test .taken in
-    omega (arith, size-most t (v .at) (v .frame) _ _ (v .inv .0) h (w .ensures) .0)
+mul-behind c = omega (arith, most (c .before) .0)
 
 add-behind : tie.Need-add-behind Inv-loop μ-loop
-add-behind c =
-    let a = c .before .before .before .before .before .before .before .before .args in
-    let v = c .before .before .before .before .before .loop in
-    let t = now (a .text) in
-    let w = c .before .spell in
-    let h = c .before .before .before .before .loop-test .taken in
-    omega (arith, size-most t (v .at) (v .frame) _ _ (v .inv .0) h (w .ensures) .1, c .before .before .before .before .before .before .before .before .good)
+add-behind c = omega (arith, most (c .before) .1, c .before .before .before .before .before .before .before .before .good)
 
 byte-at-requires : tie.Need-byte-at-requires Inv-loop μ-loop
 byte-at-requires c κs = tt
@@ -73,13 +128,7 @@ part-command-start : tie.Need-part-command-start Inv-loop μ-loop
 part-command-start c = omega arith
 
 part-command-end : tie.Need-part-command-end Inv-loop μ-loop
-part-command-end c =
-    let a = c .before .before .before .before .before .before .before .before .before .before .before .before .before .args in
-    let v = c .before .before .before .before .before .before .before .before .before .before .loop in
-    let t = now (a .text) in
-    let w = c .before .before .before .before .before .before .spell in
-    let h = c .before .before .before .before .before .before .before .before .before .loop-test .taken in
-    omega (arith, frame-size t (v .at) (v .frame) _ _ (v .inv .0) h (w .ensures))
+part-command-end c = omega (arith, fits (c .before .before .before .before .before .before))
 
 sub-command-2 : tie.Need-sub-command-2 Inv-loop μ-loop
 sub-command-2 c = omega arith
@@ -102,11 +151,7 @@ part-put-line-start : tie.Need-part-put-line-start Inv-loop μ-loop
 part-put-line-start c = omega arith
 
 part-put-line-end : tie.Need-part-put-line-end Inv-loop μ-loop
-part-put-line-end c =
-    let v = c .before .before .before .before .before .before .before .before .before .before .before .before .before .before .before .loop in
-    let m = c .before .before .command in
-    let p = plays-lent (v .desk .card) _ (v .reply) _ (v .desk .room) _ _ (c .before .before .before .before .before .before .before .lent-room .ensures) (omega (arith, v .inv .1)) (m .kept .1 .1 .0) (m .ensures) in
-    omega (arith, reply-bytes _ _ _ p .1, v .inv .1, length-front (v .reply) (m .last .1 .1 .0) (c .before .before .before .before .before .before .before .lent-room .result - 0) (m .kept .1 .1 .0))
+part-put-line-end c = omega (arith, reply-bytes _ _ _ (plays (c .before .before)) .1, buffer-length (c .before .before))
 
 put-line-requires : tie.Need-put-line-requires Inv-loop μ-loop
 put-line-requires c κs = tt
@@ -116,50 +161,25 @@ same-length c = c .before .before .before .put-line .kept .1 .1 .1 .0 ∙ sofar-
 
 returns : tie.Need-returns Inv-loop μ-loop
 returns c =
-    let a = c .before .before .before .before .before .before .before .before .before .before .before .before .before .before .before .before .before .before .before .before .before .before .before .before .args in
-    let v = c .before .before .before .before .before .before .before .before .before .before .before .before .before .before .before .before .before .before .before .before .before .loop in
-    let t = now (a .text) in
-    let w = c .before .before .before .before .before .before .before .before .before .before .before .before .before .before .before .before .before .spell in
-    let h = c .before .before .before .before .before .before .before .before .before .before .before .before .before .before .before .before .before .before .before .before .loop-test .taken in
-    let y = ap (λ (b : ℕ). ltb 0 (w .result) && eqb b 0x0A) (sym (c .before .before .before .before .before .before .before .before .before .before .before .before .before .before .before .byte-at .ensures)) ∙ c .before .before .before .before .before .before .before .before .before .before .before .before .before .before .if1 .taken in
-    let m = c .before .before .before .before .before .before .before .before .command in
-    let p = plays-lent (v .desk .card) _ (v .reply) _ (v .desk .room) _ _ (c .before .before .before .before .before .before .before .before .before .before .before .before .before .lent-room .ensures) (omega (arith, v .inv .1)) (m .kept .1 .1 .0) (m .ensures) in
-    played-full (a .desk) t (now (a .out)) (v .desk) (v .at) (v .n) (v .out) (v .inv .2) _ (command-line t (v .at) (v .frame) _ _ (v .inv .0) h (w .ensures) y) (omega arith) (command-inside t (v .at) (v .frame) _ _ (v .inv .0) h (w .ensures) y) (commanded (v .desk .card) (part (w .last .1 .0) 0 (w .result)) (lentRoom (v .desk .room))) _ _ (command-said t (v .at) (v .frame) _ _ (v .inv .0) h (w .ensures) y (v .desk)) p _ _ (c .before .before .before .put-line .ensures) (c .if2 .taken)
+    let m = c .before .before .before .before .before .before .before .before in
+    let w = spelling (line m) in
+    let v = at-loop m .loop in
+    let a = at-loop m .before .before .before .args in
+    played-full (a .desk) (now (a .text)) (now (a .out)) (v .desk) (v .at) (v .n) (v .out) (v .inv .2) (v .frame) _ _ (v .inv .0) (turn w .loop-test .taken) (w .spell .ensures) (ends (line m .before) (line m .if1 .taken)) (buffer m) _ (plays m) _ _ (c .before .before .before .put-line .ensures) (c .if2 .taken)
 
 add-at : tie.Need-add-at Inv-loop μ-loop
-add-at c =
-    let a = c .before .before .before .before .before .before .before .before .before .before .before .before .before .before .before .before .before .before .before .before .before .before .before .before .before .args in
-    let v = c .before .before .before .before .before .before .before .before .before .before .before .before .before .before .before .before .before .before .before .before .before .before .loop in
-    let t = now (a .text) in
-    let w = c .before .before .before .before .before .before .before .before .before .before .before .before .before .before .before .before .before .before .spell in
-    let h = c .before .before .before .before .before .before .before .before .before .before .before .before .before .before .before .before .before .before .before .before .before .loop-test .taken in
-    let y = ap (λ (b : ℕ). ltb 0 (w .result) && eqb b 0x0A) (sym (c .before .before .before .before .before .before .before .before .before .before .before .before .before .before .before .before .byte-at .ensures)) ∙ c .before .before .before .before .before .before .before .before .before .before .before .before .before .before .before .if1 .taken in
-    record { fits = omega (arith, command-inside t (v .at) (v .frame) _ _ (v .inv .0) h (w .ensures) y, c .before .before .before .before .before .before .before .before .before .before .before .before .before .before .before .before .before .before .before .before .before .before .before .before .before .good) }
+add-at c = record { fits = omega (arith, inside (c .before .before .before .before .before .before .before .before .before .before .before .before .before .before .before), c .before .before .before .before .before .before .before .before .before .before .before .before .before .before .before .before .before .before .before .before .before .before .before .before .before .good) }
 
 loop-less : tie.Need-loop-less Inv-loop μ-loop
-loop-less c =
-    let a = c .before .before .before .before .before .before .before .before .before .before .before .before .before .before .before .before .before .before .before .before .before .before .before .before .before .args in
-    let v = c .before .before .before .before .before .before .before .before .before .before .before .before .before .before .before .before .before .before .before .before .before .before .loop in
-    let t = now (a .text) in
-    let w = c .before .before .before .before .before .before .before .before .before .before .before .before .before .before .before .before .before .before .spell in
-    let h = c .before .before .before .before .before .before .before .before .before .before .before .before .before .before .before .before .before .before .before .before .before .loop-test .taken in
-    let y = ap (λ (b : ℕ). ltb 0 (w .result) && eqb b 0x0A) (sym (c .before .before .before .before .before .before .before .before .before .before .before .before .before .before .before .before .byte-at .ensures)) ∙ c .before .before .before .before .before .before .before .before .before .before .before .before .before .before .before .if1 .taken in
-    omega (arith, command-inside t (v .at) (v .frame) _ _ (v .inv .0) h (w .ensures) y)
+loop-less c = omega (arith, inside (c .before .before .before .before .before .before .before .before .before .before .before .before .before .before .before))
 
 loop-again : tie.Need-loop-again Inv-loop μ-loop
 loop-again c =
-    let a = c .before .before .before .before .before .before .before .before .before .before .before .before .before .before .before .before .before .before .before .before .before .before .before .before .before .args in
-    let v = c .before .before .before .before .before .before .before .before .before .before .before .before .before .before .before .before .before .before .before .before .before .before .loop in
-    let t = now (a .text) in
-    let w = c .before .before .before .before .before .before .before .before .before .before .before .before .before .before .before .before .before .before .spell in
-    let h = c .before .before .before .before .before .before .before .before .before .before .before .before .before .before .before .before .before .before .before .before .before .loop-test .taken in
-    let y = ap (λ (b : ℕ). ltb 0 (w .result) && eqb b 0x0A) (sym (c .before .before .before .before .before .before .before .before .before .before .before .before .before .before .before .before .byte-at .ensures)) ∙ c .before .before .before .before .before .before .before .before .before .before .before .before .before .before .before .if1 .taken in
-    let m = c .before .before .before .before .before .before .before .before .before .command in
-    let p = plays-lent (v .desk .card) _ (v .reply) _ (v .desk .room) _ _ (c .before .before .before .before .before .before .before .before .before .before .before .before .before .before .lent-room .ensures) (omega (arith, v .inv .1)) (m .kept .1 .1 .0) (m .ensures) in (
-      w .kept .1 .0 ∙ v .inv .0,
-      length-front (v .reply) (m .last .1 .1 .0) (c .before .before .before .before .before .before .before .before .before .before .before .before .before .before .lent-room .result - 0) (m .kept .1 .1 .0) ∙ v .inv .1,
-      played-next (a .desk) t (now (a .out)) (v .desk) (v .at) (v .n) (v .out) (v .inv .2) _ (command-line t (v .at) (v .frame) _ _ (v .inv .0) h (w .ensures) y) (omega arith) (command-inside t (v .at) (v .frame) _ _ (v .inv .0) h (w .ensures) y) (commanded (v .desk .card) (part (w .last .1 .0) 0 (w .result)) (lentRoom (v .desk .room))) _ _ (command-said t (v .at) (v .frame) _ _ (v .inv .0) h (w .ensures) y (v .desk)) p _ _ (c .before .before .before .before .put-line .ensures) (c .before .if2 .left),
-    )
+    let m = c .before .before .before .before .before .before .before .before .before in
+    let w = spelling (line m) in
+    let v = at-loop m .loop in
+    let a = at-loop m .before .before .before .args in
+    (w .spell .kept .1 .0 ∙ v .inv .0, buffer-length m, played-next (a .desk) (now (a .text)) (now (a .out)) (v .desk) (v .at) (v .n) (v .out) (v .inv .2) (v .frame) _ _ (v .inv .0) (turn w .loop-test .taken) (w .spell .ensures) (ends (line m .before) (line m .if1 .taken)) (buffer m) _ (plays m) _ _ (c .before .before .before .before .put-line .ensures) (c .before .if2 .left))
 
 line-end-requires : tie.Need-line-end-requires Inv-loop μ-loop
 line-end-requires c κs = omega (arith, c .before .before .before .before .before .before .before .loop .inv .2 .place)
@@ -183,16 +203,7 @@ slice-aggregate-say : tie.Need-slice-aggregate-say Inv-loop μ-loop
 slice-aggregate-say c = search needs
 
 say-requires : tie.Need-say-requires Inv-loop μ-loop
-say-requires c κs =
-    let a = c .before .before .before .before .before .before .before .before .before .before .before .before .before .before .args in
-    let v = c .before .before .before .before .before .before .before .before .before .before .before .loop in
-    let t = now (a .text) in
-    let w = c .before .before .before .before .before .before .before .spell in
-    let h = c .before .before .before .before .before .before .before .before .before .before .loop-test .taken in
-    let y = ap (λ (b : ℕ). ltb 0 (w .result) && eqb b 0x0A) (sym (c .before .before .before .before .before .byte-at .ensures)) ∙ c .before .before .before .before .if1 .left in
-    let l = c .before .before .before .line-end .ensures in
-    let i : c .before .before .before .line-end .result < length t = omega (arith, c .before .before .if3 .left, l .1) in
-    (no-command t (v .at) (v .frame) _ _ (v .inv .0) h (w .ensures) y _ (l .0) i (l .3 i), omega (arith, w .kept .1 .0, v .inv .0))
+say-requires c κs = (other (c .before .before), omega (arith, spelt (c .before .before) .spell .kept .1 .0, turn (spelt (c .before .before)) .before .loop .inv .0))
 
 put-told-requires : tie.Need-put-told-requires Inv-loop μ-loop
 put-told-requires c κs = tt
@@ -202,44 +213,28 @@ same-length-3 c = c .before .before .before .put-told .kept .1 .1 .0 ∙ sofar-l
 
 returns-3 : tie.Need-returns-3 Inv-loop μ-loop
 returns-3 c =
-    let a = c .before .before .before .before .before .before .before .before .before .before .before .before .before .before .before .before .before .before .before .before .before .args in
-    let v = c .before .before .before .before .before .before .before .before .before .before .before .before .before .before .before .before .before .before .loop in
-    let t = now (a .text) in
-    let l = c .before .before .before .before .before .before .before .before .before .before .line-end .ensures in
-    let i : c .before .before .before .before .before .before .before .before .before .before .line-end .result < length t = omega (arith, c .before .before .before .before .before .before .before .before .before .if3 .left, l .1) in
-    let g = c .before .before .before .before .before .before .say in
-    let x = rw (g .ensures) at (c .before .before .before .put-told .ensures) in
-    sofar-full (a .desk) t (now (a .out)) (v .desk) (v .at) (v .n) (v .out) (v .inv .2) _ (l .2) (l .0) i _ _ x (c .if4 .taken)
+    let k = c .before .before .before .before .before .before .before .before .before in
+    let l = k .before .line-end .ensures in
+    let v = turn (spelt k) .before .loop in
+    let a = turn (spelt k) .before .before .before .before .args in
+    sofar-full (a .desk) (now (a .text)) (now (a .out)) (v .desk) (v .at) (v .n) (v .out) (v .inv .2) _ (l .2) (l .0) (in-text k) _ _ (rw (c .before .before .before .before .before .before .say .ensures) at (c .before .before .before .put-told .ensures)) (c .if4 .taken)
 
 add-at-2 : tie.Need-add-at-2 Inv-loop μ-loop
-add-at-2 c =
-    let a = c .before .before .before .before .before .before .before .before .before .before .before .before .before .before .before .before .before .before .before .before .before .before .args in
-    let t = now (a .text) in
-    let l = c .before .before .before .before .before .before .before .before .before .before .before .line-end .ensures in
-    let i : c .before .before .before .before .before .before .before .before .before .before .before .line-end .result < length t = omega (arith, c .before .before .before .before .before .before .before .before .before .before .if3 .left, l .1) in
-    record { fits = omega (arith, c .before .before .before .before .before .before .before .before .before .before .before .before .before .before .before .before .before .before .before .before .before .before .good) }
+add-at-2 c = record { fits = omega (arith, in-text (c .before .before .before .before .before .before .before .before .before .before), c .before .before .before .before .before .before .before .before .before .before .before .before .before .before .before .before .before .before .before .before .before .before .good) }
 
 loop-less-2 : tie.Need-loop-less-2 Inv-loop μ-loop
-loop-less-2 c =
-    let a = c .before .before .before .before .before .before .before .before .before .before .before .before .before .before .before .before .before .before .before .before .before .before .args in
-    let t = now (a .text) in
-    let l = c .before .before .before .before .before .before .before .before .before .before .before .line-end .ensures in
-    let i : c .before .before .before .before .before .before .before .before .before .before .before .line-end .result < length t = omega (arith, c .before .before .before .before .before .before .before .before .before .before .if3 .left, l .1) in
-    omega arith
+loop-less-2 c = omega (arith, in-text (c .before .before .before .before .before .before .before .before .before .before), c .before .before .before .before .before .before .before .before .before .before .before .line-end .ensures .0)
 
 loop-again-2 : tie.Need-loop-again-2 Inv-loop μ-loop
 loop-again-2 c =
-    let a = c .before .before .before .before .before .before .before .before .before .before .before .before .before .before .before .before .before .before .before .before .before .before .args in
-    let v = c .before .before .before .before .before .before .before .before .before .before .before .before .before .before .before .before .before .before .before .loop in
-    let t = now (a .text) in
-    let w = c .before .before .before .before .before .before .before .before .before .before .before .before .before .before .before .spell in
-    let l = c .before .before .before .before .before .before .before .before .before .before .before .line-end .ensures in
-    let i : c .before .before .before .before .before .before .before .before .before .before .before .line-end .result < length t = omega (arith, c .before .before .before .before .before .before .before .before .before .before .if3 .left, l .1) in
-    let g = c .before .before .before .before .before .before .before .say in
-    let x = rw (g .ensures) at (c .before .before .before .before .put-told .ensures) in (
-      g .kept .1 .1 .0 ∙ (w .kept .1 .0 ∙ v .inv .0),
+    let k = c .before .before .before .before .before .before .before .before .before .before in
+    let l = k .before .line-end .ensures in
+    let v = turn (spelt k) .before .loop in
+    let a = turn (spelt k) .before .before .before .before .args in
+    let g = c .before .before .before .before .before .before .before .say in (
+      g .kept .1 .1 .0 ∙ (spelt k .spell .kept .1 .0 ∙ v .inv .0),
       v .inv .1,
-      sofar-as _ _ _ _ _ _ _ _ (told-desk _ (g .ensures)) (sofar-next (a .desk) t (now (a .out)) (v .desk) (v .at) (v .n) (v .out) (v .inv .2) _ (l .2) (l .0) i _ _ x (c .before .if4 .left)),
+      sofar-as _ _ _ _ _ _ _ _ (told-desk _ (g .ensures)) (sofar-next (a .desk) (now (a .text)) (now (a .out)) (v .desk) (v .at) (v .n) (v .out) (v .inv .2) _ (l .2) (l .0) (in-text k) _ _ (rw (g .ensures) at (c .before .before .before .before .put-told .ensures)) (c .before .if4 .left)),
     )
 
 same-length-4 : tie.Need-same-length-4 Inv-loop μ-loop
