@@ -24,6 +24,7 @@ use Rattle.frames.specs.Frame.{insOf, dataOf}
 use Rattle.settings.specs.declared.Settings.{Settings}
 use Rattle.commands.specs.State.{State}
 use Rattle.commands.specs.Rows.{ok, statusOf, commandStatus}
+use Rattle.commands.specs.Laws.{command-ok}
 use Rattle.effects.specs.Effects.{purseAfter, journalAfter, filesAfter}
 use Rattle.effects.specs.Guarded.{purseIn}
 use Rattle.replies.specs.Guarded.{shownIn}
@@ -143,17 +144,20 @@ module _ (c : Card) (f : List ℕ) where
     unfolding refused
     command-refused s es n ek e = answered-as _ _ _ _ _ (plays-refused s es n ∙ command-plays _ h u) (status-alone (ended (view c)) s ek e)
 
-    module _ (s : statusOf (view c .core) f ≡ ok) where
-      accepts : laidInto c (accepted (view c) (insOf f) (dataOf f)) ≡ commanded c f (length b)
-      accepts = plays-accepted s ∙ command-plays _ h u
+    -- i and d are its command and data field, as the code has read them
+    module _ (s : statusOf (view c .core) f ≡ ok) {i : ℕ} {d : List ℕ} (ei : i ≡ insOf f) (ed : d ≡ dataOf f) where
+      pub command-taken : commandStatus (view c .core) i d ≡ ok
+      command-taken = rw (ei, ed) (command-ok (view c .core) f s)
 
-      pub command-shows : {b₂ : List ℕ} {r : Reply} → Answered (laidInto c (accepted (view c) (insOf f) (dataOf f))) b b₂ r → Answered (commanded c f (length b)) b b₂ r
+      accepts : laidInto c (accepted (view c) i d) ≡ commanded c f (length b)
+      accepts = rw (ei, ed) (plays-accepted s ∙ command-plays _ h u)
+
+      pub command-shows : {b₂ : List ℕ} {r : Reply} → Answered (laidInto c (accepted (view c) i d)) b b₂ r → Answered (commanded c f (length b)) b b₂ r
       command-shows x = answered-as _ _ _ _ _ accepts x
 
-      pub command-quiet : {b₂ : List ℕ} {k : Card} → shows (insOf f) ≡ false → k ≡ put c (changed (view c) (insOf f) (dataOf f)) → b₂ ≡ laidIn b 0 (word ok)
-          → Answered (commanded c f (length b)) b b₂ (reply k 0 2)
+      pub command-quiet : {b₂ : List ℕ} {k : Card} → shows i ≡ false → k ≡ put c (changed (view c) i d) → b₂ ≡ laidIn b 0 (word ok) → Answered (commanded c f (length b)) b b₂ (reply k 0 2)
       command-quiet t ek e =
-          let q : record { state = changed (view c) (insOf f) (dataOf f); out = word ok } ≡ accepted (view c) (insOf f) (dataOf f) = unfold accepted in rw (quiet-shows-nothing (view c) (dataOf f) (insOf f) t) refl in
+          let q : record { state = changed (view c) i d; out = word ok } ≡ accepted (view c) i d = unfold accepted in rw (quiet-shows-nothing (view c) d i t) refl in
           answered-as _ _ _ _ _ (ap (laidInto c) q ∙ accepts) (status-alone _ ok ek e)
 
 -- ---- the other events

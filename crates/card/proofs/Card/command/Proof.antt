@@ -1,15 +1,41 @@
-use Rattle.card.specs.Laws.{bench-answers, answered-as, command-short, command-broken, command-refused, command-shows, command-quiet, moved}
+use Rattle.card.specs.declared.Card.{Card}
+use Rattle.card.specs.Events.{replyRoom}
+use Rattle.card.specs.Laws.{bench-answers, answered-as, command-short, command-broken, command-refused, command-taken, command-shows, command-quiet, moved}
 use Rattle.card.specs.Order.{status-told}
+use Rattle.card.specs.Rules.{broken}
 use Rattle.card.specs.View.{view}
-use Rattle.columns.specs.Table.{shows}
-use Rattle.commands.specs.Laws.{command-ok}
-use Rattle.commands.specs.Rows.{ok, statusOf, commandStatus}
+use Rattle.commands.specs.Rows.{ok, statusOf}
 use borrow.Author.Tests.{ne-eqb}
-use denote.Ref.{now}
-use mathlib.Core.Path.{_≡_, sym, ap, _∙_}
 use borrow.Author.Needs.{needs}
+use denote.Ref.{now}
+use lib.ListN.{length}
+use Prim.Native.Nat.{ℕ, _≤_}
+use mathlib.Core.Bool.{false}
+use mathlib.Core.List.{List}
+use mathlib.Core.Path.{_≡_, refl, sym, _∙_}
 use Rattle.card.proofs.Card.command.Statement.{statement}
 use Rattle.card.proofs.Card.command.Tie as tie
+
+-- what the code knows where there is no bench refusal, and no reason of the table applies
+module _ (k : tie.Else3) where
+  abbrev card : Card
+  card = k .before .before .before .before .before .before .before .before .before .before .args .self
+
+  abbrev frame : List ℕ
+  frame = now (k .before .before .before .before .before .before .before .before .before .before .args .frame)
+
+  abbrev buffer : List ℕ
+  buffer = now (k .before .before .before .before .before .before .before .before .before .before .args .reply)
+
+  room : replyRoom ≤ length buffer
+  room = k .before .before .before .before .if1 .left
+
+  sound : broken card ≡ false
+  sound = sym (k .before .before .before .breaks .ensures) ∙ k .before .before .if2 .left
+
+  taken : statusOf (view card .core) frame ≡ ok
+  unfolding view
+  taken = sym (status-told _ _ (k .before .checked .ensures)) ∙ k .if3 .left
 
 returns : tie.Need-returns
 returns c =
@@ -39,8 +65,10 @@ same-length c = search needs
 returns-3 : tie.Need-returns-3
 unfolding view
 returns-3 c =
-    let a = c .before .before .before .before .before .before .before .before .before .before .before .before .before .before .before .args in
-    command-refused (a .self) (now (a .frame)) (now (a .reply)) (c .before .before .before .before .before .before .before .before .before .if1 .left) (sym (c .before .before .before .before .before .before .before .before .breaks .ensures) ∙ c .before .before .before .before .before .before .before .if2 .left) (c .before .before .before .before .before .before .checked .result .status) (status-told _ _ (c .before .before .before .before .before .before .checked .ensures)) (c .before .before .before .before .before .if3 .taken) (c .ended .ensures) (c .before .before .before .put-status .ensures)
+    let k = c .before .before .before .before .before in
+    let a = k .before .before .before .before .before .before .before .before .before .before .args in
+    let u = sym (k .before .before .before .breaks .ensures) ∙ k .before .before .if2 .left in
+    command-refused (a .self) (now (a .frame)) (now (a .reply)) (k .before .before .before .before .if1 .left) u _ (status-told _ _ (k .before .checked .ensures)) (k .if3 .taken) (c .ended .ensures) (c .before .before .before .put-status .ensures)
 
 byte-at-requires : tie.Need-byte-at-requires
 byte-at-requires c κs = tt
@@ -52,23 +80,19 @@ shows-requires : tie.Need-shows-requires
 shows-requires c κs = tt
 
 shown-requires : tie.Need-shown-requires
-unfolding view
 shown-requires c κs =
-    let b = c .before .before .before .before in
-    let a = b .before .before .before .before .before .before .before .before .before .before .before .args in
-    let e : statusOf (view (a .self) .core) (now (a .frame)) ≡ ok = sym (status-told _ _ (b .before .before .checked .ensures)) ∙ b .before .if3 .left in
-    (sym (c .before .before .shows .ensures) ∙ c .before .if4 .taken, rw (b .byte-at .ensures, c .before .before .before .data .ensures) (command-ok (view (a .self) .core) (now (a .frame)) e), sym (b .before .before .before .before .breaks .ensures) ∙ b .before .before .before .if2 .left, b .before .before .before .before .before .if1 .left)
+    let d = c .before .before .before in
+    let k = d .before .before in
+    (sym (c .before .before .shows .ensures) ∙ c .before .if4 .taken, command-taken (card k) (frame k) (buffer k) (room k) (sound k) (taken k) (d .before .byte-at .ensures) (d .data .ensures), sound k, room k)
 
 same-length-2 : tie.Need-same-length-2
 same-length-2 c = search needs
 
 returns-4 : tie.Need-returns-4
-unfolding view
 returns-4 c =
-    let b = c .before .before .before .before .before .before .before in
-    let a = b .before .before .before .before .before .before .before .before .before .before .before .args in
-    let e : statusOf (view (a .self) .core) (now (a .frame)) ≡ ok = sym (status-told _ _ (b .before .before .checked .ensures)) ∙ b .before .if3 .left in
-    command-shows (a .self) (now (a .frame)) (now (a .reply)) (b .before .before .before .before .before .if1 .left) (sym (b .before .before .before .before .breaks .ensures) ∙ b .before .before .before .if2 .left) e (rw (b .byte-at .ensures, c .before .before .before .before .before .before .data .ensures) at (c .before .before .shown .ensures))
+    let d = c .before .before .before .before .before .before in
+    let k = d .before .before in
+    command-shows (card k) (frame k) (buffer k) (room k) (sound k) (taken k) (d .before .byte-at .ensures) (d .data .ensures) (c .before .before .shown .ensures)
 
 put-status-requires-2 : tie.Need-put-status-requires-2
 put-status-requires-2 c κs = tt
@@ -80,14 +104,10 @@ same-length-3 : tie.Need-same-length-3
 same-length-3 c = search needs
 
 returns-5 : tie.Need-returns-5
-unfolding view
 returns-5 c =
-    let b = c .before .before .before .before .before .before .before .before .before in
-    let a = b .before .before .before .before .before .before .before .before .before .before .before .args in
-    let e : statusOf (view (a .self) .core) (now (a .frame)) ≡ ok = sym (status-told _ _ (b .before .before .checked .ensures)) ∙ b .before .if3 .left in
-    let t = sym (ap shows (b .byte-at .ensures)) ∙ sym (c .before .before .before .before .before .before .before .shows .ensures) ∙ c .before .before .before .before .before .before .if4 .left in
-    let i = sym (b .byte-at .ensures) ∙ c .before .if5 .taken in
-    command-quiet (a .self) (now (a .frame)) (now (a .reply)) (b .before .before .before .before .before .if1 .left) (sym (b .before .before .before .before .breaks .ensures) ∙ b .before .before .before .if2 .left) e t (rw (i, sym (c .before .before .before .before .before .before .before .before .data .ensures)) (c .written .ensures)) (c .before .before .before .before .put-status2 .ensures)
+    let d = c .before .before .before .before .before .before .before .before in
+    let k = d .before .before in
+    command-quiet (card k) (frame k) (buffer k) (room k) (sound k) (taken k) (sym (c .before .if5 .taken) ∙ d .before .byte-at .ensures) (d .data .ensures) refl (c .written .ensures) (c .before .before .before .before .put-status2 .ensures)
 
 next-purse-requires : tie.Need-next-purse-requires
 next-purse-requires c κs = tt
@@ -99,16 +119,13 @@ same-length-4 : tie.Need-same-length-4
 same-length-4 c = search needs
 
 returns-6 : tie.Need-returns-6
-unfolding view
 returns-6 c =
-    let b = c .before .before .before .before .before .before .before .before .before .before .before in
-    let a = b .before .before .before .before .before .before .before .before .before .before .before .args in
-    let e : statusOf (view (a .self) .core) (now (a .frame)) ≡ ok = sym (status-told _ _ (b .before .before .checked .ensures)) ∙ b .before .if3 .left in
-    let d = c .before .before .before .before .before .before .before .before .before .before .data in
-    let t = sym (ap shows (b .byte-at .ensures)) ∙ sym (c .before .before .before .before .before .before .before .before .before .shows .ensures) ∙ c .before .before .before .before .before .before .before .before .if4 .left in
-    let k : commandStatus (view (a .self) .core) (b .byte-at .result) (now (d .result)) ≡ ok = rw (b .byte-at .ensures, d .ensures) (command-ok (view (a .self) .core) (now (a .frame)) e) in
-    let m = moved (a .self) (b .byte-at .result) (now (d .result)) _ _ k (ne-eqb _ _ (c .before .before .before .if5 .left)) (c .before .next-purse .ensures) (c .next-log .ensures) in
-    command-quiet (a .self) (now (a .frame)) (now (a .reply)) (b .before .before .before .before .before .if1 .left) (sym (b .before .before .before .before .breaks .ensures) ∙ b .before .before .before .if2 .left) e t (rw (b .byte-at .ensures, d .ensures) at m) (c .before .before .before .before .before .before .put-status2 .ensures)
+    let q = c .before .before .before .before .before .before .before .before in
+    let d = q .before .before in
+    let k = d .before .before in
+    let e = command-taken (card k) (frame k) (buffer k) (room k) (sound k) (taken k) (d .before .byte-at .ensures) (d .data .ensures) in
+    let m = moved (card k) _ _ _ _ e (ne-eqb _ _ (c .before .before .before .if5 .left)) (c .before .next-purse .ensures) (c .next-log .ensures) in
+    command-quiet (card k) (frame k) (buffer k) (room k) (sound k) (taken k) (d .before .byte-at .ensures) (d .data .ensures) (sym (q .before .shows .ensures) ∙ q .if4 .left) m (c .before .before .before .before .before .before .put-status2 .ensures)
 
 pub command-spec : {M : Type 1} → statement M
 command-spec =
