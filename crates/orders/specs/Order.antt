@@ -9,6 +9,7 @@ use mir.Val.{toZ}
 use Rattle.wire.specs.Bytes.{le4}
 use Rattle.limits.specs.declared.Limits.{Limits}
 use Rattle.settings.specs.declared.Settings.{Settings}
+use Rattle.orders.specs.declared.Order.{Order}
 
 -- two bytes from place at on, least significant first
 unfoldable pub le2 : List ℕ → ℕ → ℕ
@@ -33,5 +34,5 @@ settingsIn b =
       free = eqb (getD b 22 0 / 2 % 2) 1;
     }
 
-unfoldable pub valueIn : List ℕ → ℤ
-valueIn b = signed b 18
+unfoldable pub orderIn : List ℕ → Order
+orderIn b = record { settings = settingsIn b; value = signed b 18 }

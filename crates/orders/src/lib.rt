@@ -2,7 +2,13 @@
 use limits::Limits;
 use settings::Settings;
 ghost use mathlib.Core.Path.{_≡_};
-ghost use Rattle.orders.specs.Order.{le2, signed, limitsIn, settingsIn, valueIn};
+ghost use Rattle.orders.specs.Order.{le2, signed, limitsIn, settingsIn, orderIn};
+
+// The settings and the starting value that an order names.
+pub struct Order {
+    pub settings: Settings,
+    pub value: i32,
+}
 
 // Two bytes from at on, least significant first.
 fn le2_at(b: &[u8], at: u8) -> u16
@@ -29,8 +35,7 @@ fn limits_in(b: &[u8]) -> Limits
     Limits { lower, upper }
 }
 
-// The settings that the bytes of an order name.
-pub fn settings_in(b: &[u8]) -> Settings
+fn settings_in(b: &[u8]) -> Settings
     ensures { λ r. ⌜ r ≡ settingsIn (now (b .entry)) ⌝ }
 {
     let switches = wire::byte_at(b, 22);
@@ -46,9 +51,12 @@ pub fn settings_in(b: &[u8]) -> Settings
     }
 }
 
-// The starting value that they name.
-pub fn value_in(b: &[u8]) -> i32
-    ensures { λ r. ⌜ r ≡ valueIn (now (b .entry)) ⌝ }
-{
-    signed_at(b, 18)
+impl Order {
+    pub fn read(b: &[u8]) -> Order
+        ensures { λ r. ⌜ r ≡ orderIn (now (b .entry)) ⌝ }
+    {
+        let settings = settings_in(b);
+        let value = signed_at(b, 18);
+        Order { settings, value }
+    }
 }

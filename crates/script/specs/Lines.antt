@@ -15,7 +15,7 @@ use Rattle.card.specs.Events.{commanded, sessionChanged, poweredUp, personalise
 use Rattle.text.specs.Hex.{isHex, spelt}
 use Rattle.answers.specs.Answers.{numbered, refusalText, replyText}
 use Rattle.books.specs.Books.{booksText}
-use Rattle.orders.specs.Order.{settingsIn, valueIn}
+use Rattle.orders.specs.Order.{orderIn}
 use Rattle.desk.specs.declared.Desk.{Desk}
 use Rattle.script.specs.declared.Answer.{Answer}
 use Rattle.script.specs.declared.Answer.the-variants.{Unread, Number, Refusal, Books}
@@ -77,7 +77,7 @@ bookKept k = record { desk = k; out = booksText (k .card .purse) (k .card .log) 
 -- a letter with n characters behind it, which are digits or not, and the bytes that they spell
 unfoldable pub letteredBy : Desk → ℕ → ℕ → Bool → List ℕ → Said
 letteredBy k letter n digits b =
-    pick (eqb letter 0x50 && eqb n 46 && digits) (counted k (personalised (settingsIn b) (valueIn b)))
+    pick (eqb letter 0x50 && eqb n 46 && digits) (counted k (personalised (orderIn b .settings) (orderIn b .value)))
     (pick (eqb letter 0x53 && eqb n 0) (counted k (sessionChanged (k .card) Nobody))
     (pick (eqb letter 0x53 && eqb n 2 && digits) (counted k (sessionChanged (k .card) (Key (getD b 0 0))))
     (pick (eqb letter 0x52 && eqb n 4 && digits) (lent k (256 * getD b 0 0 + getD b 1 0))

@@ -3,21 +3,24 @@ use Prim.Native.Nat.{ℕ, suc, _+_, _-_, _≤_, _<_}
 use mathlib.Core.Bool.{Bool, true, false}
 use mathlib.Core.List.{List, [], _∷_, _++_}
 use mathlib.Core.Path.{_≡_, refl, sym, ap, _∙_}
-use borrow.Author.Tests.{eq-eqb, ne-eqb, leb-true, leb-false}
-use lib.Dec.{leb, ltb}
+use borrow.Author.Tests.{eq-eqb, ne-eqb, leb-true, leb-false, ltb-false}
+use lib.Dec.{eqb, leb, ltb}
 use lib.ListN.{length, drop, getD, length-append, length-drop, drop-of-length-le}
 use lib.Seq.{take-suc, drop-cons, getD-drop}
 use native.Mathlib.Nat.{add-zero}
 use native.Mathlib.Numerals.{add-one}
 use native.Mathlib.Omega.{arith}
-use Rattle.tables.specs.Choice.{pick, picked, passed}
+use Rattle.tables.specs.Choice.{pick, picked, passed, pick-cases}
 use Rattle.wire.specs.Bytes.{part, laid, laidIn}
 use Rattle.wire.specs.Laws.{length-laid}
 use Rattle.text.specs.Hex.{isHex}
 use Rattle.text.specs.Laws.{room-yes, room-no}
 use Rattle.text.specs.Shown.{inRoom, Adds}
 use Rattle.text.specs.Adds.{adds-none, adds-then, adds-room}
-use Rattle.script.specs.Run.{linesAfter}
+use Rattle.desk.specs.declared.Desk.{Desk}
+use Rattle.script.specs.declared.Went.{Went}
+use Rattle.script.specs.Lines.{lineSaid}
+use Rattle.script.specs.Run.{linesAfter, Gone, stopped, ahead, went, wentOf, Goes}
 
 -- the lines of a text from place at on: none where no LF follows, else the one up to place e, and those behind it
 abbrev pub Lines : List ℕ → ℕ → ℕ → Type 0
@@ -90,3 +93,29 @@ module _ (y b : List ℕ) (n : ℕ) where
             let h = leb-true (length (y ++ 0x0A ∷ [])) (length b - n) f in
             (omega (arith, size), rw (room-yes (length b - n) (y ++ 0x0A ∷ []) h) at a)
         by false f = let g = room-no (length b - n) (y ++ 0x0A ∷ []) (leb-false _ _ f) in absurd (q (a .1 ∙ (ap (λ (l : List ℕ). n + length l) g ∙ add-zero n)))
+
+-- ---- how far a run comes
+
+-- no more was read than n characters, and no more was answered than has room
+abbrev Within : ℕ → ℕ → Gone → Type 0
+Within n room w = (w .read ≤ n) × (length (w .out) ≤ room)
+
+went-within : (k : Desk) (held t : List ℕ) (room : ℕ) → Within (length held + length t) room (went k (linesAfter held t) room)
+unfolding went linesAfter stopped ahead
+went-within k held [] room = (omega arith, omega arith)
+went-within k held (c ∷ cs) room =
+    let o = lineSaid k held .out in
+    let d = lineSaid k held .desk in
+    let left = room - (length o + 1) in
+    let i = went-within d [] cs left in
+    let j = went-within k (held ++ c ∷ []) cs room in
+    let W = Within (length held + length (c ∷ cs)) room in
+    pick-cases (λ (ls : List (List ℕ)). W (went k ls room)) (eqb c 0x0A) (held ∷ linesAfter [] cs) (linesAfter (held ++ c ∷ []) cs)
+    (λ e.
+    pick-cases W (ltb room (length o + 1)) (stopped k) (ahead (length held) (o ++ 0x0A ∷ []) (went d (linesAfter [] cs) left)) (λ f. (omega arith, omega arith))
+    (λ f. (omega arith, simp length-append (omega (arith, ltb-false room (length o + 1) f)))))
+    (λ e. (omega (arith, length-append held (c ∷ [])), j .1))
+
+pub goes-within : (k : Desk) (t b x : List ℕ) (r : Went) → Goes (went k (linesAfter [] t) (length b)) b x r → (r .read ≤ length t) × (r .written ≤ length b)
+unfolding wentOf
+goes-within k t b x r g = let i = went-within k [] t (length b) in rw (g .0) (omega arith, i .1)

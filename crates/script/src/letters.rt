@@ -5,20 +5,21 @@ use super::Told;
 use access::Session;
 use card::Card;
 use desk::Desk;
+use orders::Order;
 ghost use mathlib.Core.Path.{_≡_};
 ghost use Prim.Native.Nat.{_+_, _*_, _≤_};
 ghost use lib.ListN.{length, getD};
 ghost use Rattle.card.specs.Events.{personalised, sessionChanged};
-ghost use Rattle.orders.specs.Order.{settingsIn, valueIn};
+ghost use Rattle.orders.specs.Order.{orderIn};
 ghost use Rattle.script.specs.Lines.{saidOf, counted, lent, letteredBy, lettered};
 
 // P: personalise.
 fn personalise(mut desk: Desk, b: &[u8]) -> Told
-    ensures { λ r. ⌜ saidOf r ≡ counted desk (personalised (settingsIn (now (b .entry))) (valueIn (now (b .entry)))) ⌝ }
+    ensures { λ r. ⌜ saidOf r ≡ counted desk (personalised (orderIn (now (b .entry)) .settings) (orderIn (now (b .entry)) .value)) ⌝ }
 {
-    let settings = orders::settings_in(b);
-    let value = orders::value_in(b);
-    let made = Card::personalise(settings, value);
+    let order = Order::read(b);
+    let settings = order.settings;
+    let made = Card::personalise(settings, order.value);
     let next = made.card;
     desk.card = next;
     Told {

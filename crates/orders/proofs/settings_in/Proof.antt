@@ -26,7 +26,13 @@ limits-in-requires c κs = search needs
 
 returns : tie.Need-returns
 unfolding settingsIn
-returns c = cc
+returns c =
+    let l5 = c .before in
+    let l4 = l5 .before in
+    let l3 = l4 .before in
+    let l2 = l3 .before in
+    let l1 = l2 .before in
+    rw (l1 .le2-at .ensures, l2 .le2-at2 .ensures, l3 .le2-at3 .ensures, l4 .le2-at4 .ensures, l5 .le2-at5 .ensures, c .limits-in .ensures, l1 .before .byte-at .ensures)
 
 pub settings-in-spec : {M : Type 1} → statement M
 settings-in-spec =
