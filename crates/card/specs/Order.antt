@@ -18,7 +18,7 @@ use Rattle.commands.specs.declared.Places.{Places}
 use Rattle.commands.specs.State.{Core}
 use Rattle.commands.specs.Places.{placesOf}
 use Rattle.commands.specs.Rows.{rowsOf, ok, statusOf, commandStatus}
-use Rattle.card.specs.declared.Checked.{Checked}
+use Rattle.card.specs.declared.order.Checked.{Checked}
 
 -- places 1 to 4
 abbrev pub framePart : Bool → Bool → Bool → Bool → List Reason

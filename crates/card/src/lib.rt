@@ -1,11 +1,10 @@
 // The card: personalisation, and the three events command, session change and power-up.
-use access::Access;
+mod issue;
+mod order;
+
 use access::Session;
 use columns::table;
-use commands::Places;
 use datafiles::Files;
-use frames::Faults;
-use limits::Limits;
 use logbook::Log;
 use purse::Purse;
 use settings::Settings;
@@ -16,11 +15,10 @@ ghost use lib.ListN.{length};
 ghost use Rattle.commands.specs.Rows.{commandStatus, ok};
 ghost use Rattle.wire.specs.Bytes.{laidIn, word};
 ghost use Rattle.columns.specs.Table.{writeData, shows};
-ghost use Rattle.card.specs.View.{coreOf, view, put};
+ghost use Rattle.card.specs.View.{view, put};
 ghost use Rattle.card.specs.Rules.{brokenBy, broken};
 ghost use Rattle.card.specs.Outcome.{replyOf, Answered};
-ghost use Rattle.card.specs.Events.{changed, ended, accepted, laidInto, replyRoom, commanded, sessionChanged, poweredUp, issued, blank, orderRefusal, personalised};
-ghost use Rattle.card.specs.Order.{frameOrder, commandOrder, checkedOf};
+ghost use Rattle.card.specs.Events.{changed, ended, accepted, laidInto, replyRoom, commanded, sessionChanged, poweredUp, personalised};
 
 pub struct Card {
     pub settings: Settings,
@@ -35,12 +33,6 @@ pub struct Reply {
     pub card: Card,
     pub refusal: u8,
     pub len: usize,
-}
-
-// What the order of checks leaves: the status, and what the access decision answered, for the making of the reply.
-struct Checked {
-    status: u16,
-    access: Access,
 }
 
 impl Card {
@@ -75,105 +67,6 @@ impl Card {
     pub const OUTSIDE: u16 = 0x91BE;
 
     pub const NOTHING_PENDING: u16 = 0x910C;
-
-    // Places 1 to 4: the first that applies names the status.
-    fn frame_order(size: bool, class: bool, parameters: bool, frame: bool) -> u16
-        ensures { λ r. ⌜ r ≡ frameOrder size class parameters frame ⌝ }
-    {
-        if size {
-            return Card::WRONG_LENGTH;
-        }
-        if class {
-            return Card::WRONG_CLASS;
-        }
-        if parameters {
-            return Card::WRONG_PARAMETERS;
-        }
-        if frame {
-            return Card::WRONG_LENGTH;
-        }
-        Card::OK
-    }
-
-    // Places 5 to 13.
-    fn command_order(
-        command: bool,
-        length: bool,
-        file: bool,
-        kind: bool,
-        grant: bool,
-        off: bool,
-        value: bool,
-        range: bool,
-        nothing: bool,
-    ) -> u16
-        ensures { λ r. ⌜ r ≡ commandOrder command length file kind grant off value range nothing ⌝ }
-    {
-        if command {
-            return Card::UNKNOWN_COMMAND;
-        }
-        if length {
-            return Card::DATA_LENGTH;
-        }
-        if file {
-            return Card::NO_SUCH_FILE;
-        }
-        if kind {
-            return Card::DENIED;
-        }
-        if grant {
-            return Card::NOT_GRANTED;
-        }
-        if off {
-            return Card::DENIED;
-        }
-        if value {
-            return Card::BAD_PARAMETER;
-        }
-        if range {
-            return Card::OUTSIDE;
-        }
-        if nothing {
-            return Card::NOTHING_PENDING;
-        }
-        Card::OK
-    }
-
-    // A frame through the order of checks.
-    fn checked(
-        settings: Settings,
-        purse: Purse,
-        log: Log,
-        session: Session,
-        frame: &[u8],
-    ) -> Checked
-        ensures { λ r. ⌜ r ≡ checkedOf (coreOf settings purse log session) (now (frame .entry)) ⌝ }
-    {
-        let f = Faults::asked(frame);
-        let s = Card::frame_order(f.size, f.class, f.parameters, f.frame);
-        if s != Card::OK {
-            return Checked {
-                status: s,
-                access: Access::NotGranted,
-            };
-        }
-        let ins = wire::byte_at(frame, 1);
-        let d = frames::data(frame);
-        let p = Places::asked(settings, purse, log, session, ins, d);
-        let status = Card::command_order(
-            p.command,
-            p.length,
-            p.file,
-            p.kind,
-            p.grant,
-            p.off,
-            p.value,
-            p.range,
-            p.nothing,
-        );
-        let access = p.access;
-        Checked { status, access }
-    }
 
     // Whether a standing rule is broken.
     fn breaks(settings: Settings, purse: Purse, log: Log, session: Session) -> bool
@@ -290,7 +183,7 @@ impl Card {
                 len: 0,
             };
         }
-        let checked = Card::checked(settings, purse, log, session, frame);
+        let checked = order::check(settings, purse, log, session, frame);
         let status = checked.status;
         if status != Card::OK {
             Card::put_status(status, reply);
@@ -390,72 +283,22 @@ impl Card {
         }
     }
 
-    // A card with these settings and this value, and nothing else on it.
-    fn issued(settings: Settings, value: i32) -> Card
-        ensures { λ r. ⌜ r ≡ issued settings value ⌝ }
-    {
-        Card {
-            settings,
-            files: Files::zeros(),
-            purse: Purse::resting(value, 0),
-            log: Log::empty(),
-            session: Session::Nobody,
-        }
-    }
-
-    // The card beside a refused personalisation.
-    fn blank() -> Card
-        ensures { λ r. ⌜ r ≡ blank ⌝ }
-    {
-        let settings = Settings {
-            r00: 0xFFFF,
-            r04: 0xFFFF,
-            r1f: 0xFFFF,
-            r03: 0xFFFF,
-            r01: 0xFFFF,
-            limits: Limits { lower: 0, upper: 0 },
-            limited: false,
-            free: false,
-        };
-        Card::issued(settings, 0)
-    }
-
     // A new card, or a bench refusal with the blank one beside it.
     pub fn personalise(settings: Settings, value: i32) -> Reply
         ensures { λ r. ⌜ r ≡ replyOf (personalised settings value) ⌝ }
     {
-        let refusal = Card::order_refusal(settings, value);
+        let refusal = issue::refusal(settings, value);
         if refusal != 0 {
             return Reply {
-                card: Card::blank(),
+                card: issue::blank(),
                 refusal,
                 len: 0,
             };
         }
         Reply {
-            card: Card::issued(settings, value),
+            card: issue::issued(settings, value),
             refusal: 0,
             len: 0,
         }
-    }
-
-    // The bench refusal of a personalisation, or 0.
-    fn order_refusal(settings: Settings, value: i32) -> u8
-        ensures { λ r. ⌜ r ≡ orderRefusal settings value ⌝ }
-    {
-        let limits = settings.limits;
-        let rights = settings.has_wrong_rights();
-        let crossed = limits.are_crossed();
-        let held = limits.hold(value);
-        if rights {
-            return 1;
-        }
-        if crossed {
-            return 2;
-        }
-        if !held {
-            return 3;
-        }
-        0
     }
 }

@@ -35,7 +35,7 @@ module _ (k : tie.Else3) where
 
   taken : statusOf (view card .core) frame ≡ ok
   unfolding view
-  taken = sym (status-told _ _ (k .before .checked .ensures)) ∙ k .if3 .left
+  taken = sym (status-told _ _ (k .before .check .ensures)) ∙ k .if3 .left
 
 returns : tie.Need-returns
 returns c =
@@ -50,8 +50,8 @@ returns-2 c =
     let a = c .before .before .before .before .before .before .before .before .args in
     answered-as _ _ _ _ _ (command-broken (a .self) (now (a .frame)) _ (c .before .before .if1 .left) (sym (c .before .breaks .ensures) ∙ c .if2 .taken)) (bench-answers (a .self) 6 (now (a .reply)))
 
-checked-requires : tie.Need-checked-requires
-checked-requires c κs = tt
+check-requires : tie.Need-check-requires
+check-requires c κs = tt
 
 put-status-requires : tie.Need-put-status-requires
 put-status-requires c κs = tt
@@ -68,7 +68,7 @@ returns-3 c =
     let k = c .before .before .before .before .before in
     let a = k .before .before .before .before .before .before .before .before .before .before .args in
     let u = sym (k .before .before .before .breaks .ensures) ∙ k .before .before .if2 .left in
-    command-refused (a .self) (now (a .frame)) (now (a .reply)) (k .before .before .before .before .if1 .left) u _ (status-told _ _ (k .before .checked .ensures)) (k .if3 .taken) (c .ended .ensures) (c .before .before .before .put-status .ensures)
+    command-refused (a .self) (now (a .frame)) (now (a .reply)) (k .before .before .before .before .if1 .left) u _ (status-told _ _ (k .before .check .ensures)) (k .if3 .taken) (c .ended .ensures) (c .before .before .before .put-status .ensures)
 
 byte-at-requires : tie.Need-byte-at-requires
 byte-at-requires c κs = tt
@@ -134,7 +134,7 @@ command-spec =
     returns
     breaks-requires
     returns-2
-    checked-requires
+    check-requires
     put-status-requires
     ended-requires
     same-length

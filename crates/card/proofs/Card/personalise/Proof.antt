@@ -5,8 +5,8 @@ use mir.Facts.{toZ-ofZ}
 use Rattle.card.proofs.Card.personalise.Statement.{statement}
 use Rattle.card.proofs.Card.personalise.Tie as tie
 
-order-refusal-requires : tie.Need-order-refusal-requires
-order-refusal-requires c κs = tt
+refusal-requires : tie.Need-refusal-requires
+refusal-requires c κs = tt
 
 blank-requires : tie.Need-blank-requires
 blank-requires c κs = tt
@@ -15,7 +15,7 @@ returns : tie.Need-returns
 returns c =
     let s = c .before .before .before in
     let a = s .args in
-    order-refused (a .settings) (a .value) _ _ (c .before .before .order-refusal .ensures ∙ ap (orderRefusal (a .settings)) (toZ-ofZ (s .fits .value))) (c .before .if1 .taken) (c .blank .ensures)
+    order-refused (a .settings) (a .value) _ _ (c .before .before .refusal .ensures ∙ ap (orderRefusal (a .settings)) (toZ-ofZ (s .fits .value))) (c .before .if1 .taken) (c .blank .ensures)
 
 issued-requires : tie.Need-issued-requires
 issued-requires c κs = tt
@@ -25,8 +25,8 @@ returns-2 c =
     let s = c .before .before .before in
     let a = s .args in
     let f = toZ-ofZ (s .fits .value) in
-    order-taken (a .settings) (a .value) _ _ (c .before .before .order-refusal .ensures ∙ ap (orderRefusal (a .settings)) f) (c .before .if1 .left) (c .issued .ensures ∙ ap (issued (a .settings)) f)
+    order-taken (a .settings) (a .value) _ _ (c .before .before .refusal .ensures ∙ ap (orderRefusal (a .settings)) f) (c .before .if1 .left) (c .issued .ensures ∙ ap (issued (a .settings)) f)
 
 pub personalise-spec : {M : Type 1} → statement M
 personalise-spec =
-    tie.close (tie.spec order-refusal-requires blank-requires returns issued-requires returns-2)
+    tie.close (tie.spec refusal-requires blank-requires returns issued-requires returns-2)

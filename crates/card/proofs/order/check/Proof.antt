@@ -1,7 +1,7 @@
 use Rattle.card.specs.Order.{frame-refused, frame-passed}
 use denote.Ref.{now}
-use Rattle.card.proofs.Card.checked.Statement.{statement}
-use Rattle.card.proofs.Card.checked.Tie as tie
+use Rattle.card.proofs.order.check.Statement.{statement}
+use Rattle.card.proofs.order.check.Tie as tie
 
 asked-requires : tie.Need-asked-requires
 asked-requires c κs = tt
@@ -29,8 +29,8 @@ returns-2 c =
     let f = c .before .before .before .before .before in
     frame-passed _ (now (f .before .before .before .args .frame)) (f .before .asked .ensures) (f .frame-order .ensures) (c .before .before .before .before .if1 .left) (c .before .before .before .byte-at .ensures) (c .before .before .data .ensures) (c .before .asked2 .ensures) (c .command-order .ensures)
 
-pub checked-spec : {M : Type 1} → statement M
-checked-spec =
+pub check-spec : {M : Type 1} → statement M
+check-spec =
     tie.close
     (tie.spec
     asked-requires

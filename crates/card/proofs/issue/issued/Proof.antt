@@ -1,8 +1,8 @@
 use mathlib.Core.Path.{refl}
 use Rattle.card.specs.Events.{issued}
 use mir.Facts.{toZ-ofZ}
-use Rattle.card.proofs.Card.issued.Statement.{statement}
-use Rattle.card.proofs.Card.issued.Tie as tie
+use Rattle.card.proofs.issue.issued.Statement.{statement}
+use Rattle.card.proofs.issue.issued.Tie as tie
 
 zeros-requires : tie.Need-zeros-requires
 zeros-requires c κs = tt

@@ -4,8 +4,8 @@ use Rattle.card.specs.Events.{orderRefusal}
 use Rattle.limits.specs.Limits.{within}
 use mir.Facts.{toZ-ofZ}
 use mathlib.Core.Bool.{not}
-use Rattle.card.proofs.Card.order_refusal.Statement.{statement}
-use Rattle.card.proofs.Card.order_refusal.Tie as tie
+use Rattle.card.proofs.issue.refusal.Statement.{statement}
+use Rattle.card.proofs.issue.refusal.Tie as tie
 
 has-wrong-rights-requires : tie.Need-has-wrong-rights-requires
 has-wrong-rights-requires c κs = tt
@@ -44,8 +44,8 @@ returns-4 c =
     (skip _ _ _ (sym (c .before .before .before .before .are-crossed .ensures) ∙ c .before .if2 .left)
     (skip _ _ _ (sym (ap not h) ∙ c .if3 .left) refl))
 
-pub order-refusal-spec : {M : Type 1} → statement M
-order-refusal-spec =
+pub refusal-spec : {M : Type 1} → statement M
+refusal-spec =
     tie.close
     (tie.spec
     has-wrong-rights-requires

@@ -1,7 +1,7 @@
 use Rattle.tables.specs.Choice.{order}
 use Rattle.card.specs.Order.{commandOrder}
-use Rattle.card.proofs.Card.command_order.Statement.{statement}
-use Rattle.card.proofs.Card.command_order.Tie as tie
+use Rattle.card.proofs.order.command_order.Statement.{statement}
+use Rattle.card.proofs.order.command_order.Tie as tie
 
 returns : tie.Need-returns
 unfolding commandOrder

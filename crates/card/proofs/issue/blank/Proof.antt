@@ -1,7 +1,7 @@
 use Rattle.card.specs.Events.{blank, blankSettings}
 use borrow.Author.Needs.{needs}
-use Rattle.card.proofs.Card.blank.Statement.{statement}
-use Rattle.card.proofs.Card.blank.Tie as tie
+use Rattle.card.proofs.issue.blank.Statement.{statement}
+use Rattle.card.proofs.issue.blank.Tie as tie
 
 issued-requires : tie.Need-issued-requires
 issued-requires c κs = tt

@@ -1,0 +1,60 @@
+// Personalisation: the card that an order leaves, and its bench refusal.
+use super::Card;
+use access::Session;
+use datafiles::Files;
+use limits::Limits;
+use logbook::Log;
+use purse::Purse;
+use settings::Settings;
+ghost use mathlib.Core.Path.{_≡_};
+ghost use Rattle.card.specs.Events.{issued, blank, orderRefusal};
+
+// A card with these settings and this value, and nothing else on it.
+pub fn issued(settings: Settings, value: i32) -> Card
+    ensures { λ r. ⌜ r ≡ issued settings value ⌝ }
+{
+    Card {
+        settings,
+        files: Files::zeros(),
+        purse: Purse::resting(value, 0),
+        log: Log::empty(),
+        session: Session::Nobody,
+    }
+}
+
+// The card beside a refused personalisation.
+pub fn blank() -> Card
+    ensures { λ r. ⌜ r ≡ blank ⌝ }
+{
+    let settings = Settings {
+        r00: 0xFFFF,
+        r04: 0xFFFF,
+        r1f: 0xFFFF,
+        r03: 0xFFFF,
+        r01: 0xFFFF,
+        limits: Limits { lower: 0, upper: 0 },
+        limited: false,
+        free: false,
+    };
+    issued(settings, 0)
+}
+
+// The bench refusal of a personalisation, or 0.
+pub fn refusal(settings: Settings, value: i32) -> u8
+    ensures { λ r. ⌜ r ≡ orderRefusal settings value ⌝ }
+{
+    let limits = settings.limits;
+    let rights = settings.has_wrong_rights();
+    let crossed = limits.are_crossed();
+    let held = limits.hold(value);
+    if rights {
+        return 1;
+    }
+    if crossed {
+        return 2;
+    }
+    if !held {
+        return 3;
+    }
+    0
+}
