@@ -16,7 +16,7 @@ use Rattle.access.specs.declared.Session.the-variants.{Nobody}
 use Rattle.access.specs.Rights.{sessionSound}
 use Rattle.frames.specs.Frame.{insOf, dataOf}
 use Rattle.settings.specs.declared.Settings.{Settings}
-use Rattle.settings.specs.Settings.{rightsBroken}
+use Rattle.settings.specs.Settings.{alike, rightsBroken}
 use Rattle.commands.specs.State.{State}
 use Rattle.commands.specs.Rows.{ok, statusOf}
 use Rattle.effects.specs.Effects.{purseAfter, journalAfter, filesAfter}
@@ -122,21 +122,8 @@ unfoldable pub issued : Settings → ℤ → Card
 issued s v = record { settings = s; files = files.zeros; purse = purse.resting v 0; log = log.empty; session = Nobody }
 
 -- all rights FFFFh, every figure and byte zero, both switches off
-unfoldable pub blankSettings : Settings
-blankSettings =
-    record {
-      r00 = 0xFFFF;
-      r04 = 0xFFFF;
-      r1f = 0xFFFF;
-      r03 = 0xFFFF;
-      r01 = 0xFFFF;
-      limits = record { lower = pos 0; upper = pos 0 };
-      limited = false;
-      free = false;
-    }
-
 unfoldable pub blank : Card
-blank = issued blankSettings (pos 0)
+blank = issued (alike 0xFFFF (record { lower = pos 0; upper = pos 0 }) false) (pos 0)
 
 -- a rights nibble is 5 to Dh; lower limit above upper; starting value outside the limits; 0: none of these
 unfoldable pub orderRefusal : Settings → ℤ → ℕ

@@ -26,16 +26,8 @@ pub fn issued(settings: Settings, value: i32) -> Card
 pub fn blank() -> Card
     ensures { λ r. ⌜ r ≡ blank ⌝ }
 {
-    let settings = Settings {
-        r00: 0xFFFF,
-        r04: 0xFFFF,
-        r1f: 0xFFFF,
-        r03: 0xFFFF,
-        r01: 0xFFFF,
-        limits: Limits { lower: 0, upper: 0 },
-        limited: false,
-        free: false,
-    };
+    let limits = Limits { lower: 0, upper: 0 };
+    let settings = Settings::alike(0xFFFF, limits, false);
     issued(settings, 0)
 }
 

@@ -1,25 +1,14 @@
 -- The card and the desk of the program.
-use mathlib.Core.Bool.{Bool, true, false}
+use mathlib.Core.Bool.{Bool, true}
 use lib.IntN.{pos}
+use Rattle.settings.specs.Settings.{alike}
 use Rattle.card.specs.declared.Card.{Card}
 use Rattle.card.specs.Events.{personalised}
 use Rattle.desk.specs.declared.Desk.{Desk}
 
 -- the program's card: rights EEEEh everywhere, limits 0 and 1000, value 100, LimitedCredit on, free GetValue off
 unfoldable pub programCard : Card
-programCard =
-    personalised (record {
-      r00 = 0xEEEE;
-      r04 = 0xEEEE;
-      r1f = 0xEEEE;
-      r03 = 0xEEEE;
-      r01 = 0xEEEE;
-      limits = record { lower = pos 0; upper = pos 1000 };
-      limited = true;
-      free = false;
-    })
-    (pos 100)
-    .card
+programCard = personalised (alike 0xEEEE (record { lower = pos 0; upper = pos 1000 }) true) (pos 100) .card
 
 -- a desk with it, and the buffer of 0102h bytes
 unfoldable pub programDesk : Bool → Desk

@@ -17,19 +17,11 @@ impl Desk {
     fn program_card() -> Card
         ensures { λ r. ⌜ r ≡ programCard ⌝ }
     {
-        let settings = Settings {
-            r00: 0xEEEE,
-            r04: 0xEEEE,
-            r1f: 0xEEEE,
-            r03: 0xEEEE,
-            r01: 0xEEEE,
-            limits: Limits {
-                lower: 0,
-                upper: 1000,
-            },
-            limited: true,
-            free: false,
+        let limits = Limits {
+            lower: 0,
+            upper: 1000,
         };
+        let settings = Settings::alike(0xEEEE, limits, true);
         let reply = Card::personalise(settings, 100);
         reply.card
     }

@@ -16,7 +16,7 @@ use Rattle.access.specs.Rights.{rightsSound, sealed, granting, accessOf}
 use Rattle.frames.specs.Frame.{wrongSize, wrongClass, wrongParameters, wrongFrame}
 use Rattle.settings.specs.declared.Settings.{Settings}
 use Rattle.columns.specs.Table.{onFile, namesFile, isFile, suits}
-use Rattle.settings.specs.Settings.{rightsOf, accessTo, rightsBroken}
+use Rattle.settings.specs.Settings.{alike, rightsOf, accessTo, rightsBroken}
 use Rattle.commands.specs.State.{logPending}
 use Rattle.commands.specs.Rows.{unknownCommand, lengthCases, unknownFile, otherKindOrNever, notGranted, switchedOff, parameterCases, ranged, roomOf, amountCases, outside, nothingPending, rowsOf, statusOf}
 use Rattle.effects.specs.Effects.{purseAfter, journalAfter, filesAfter}
@@ -25,7 +25,7 @@ use Rattle.card.specs.declared.Card.{Card}
 use Rattle.card.specs.View.{view, put}
 use Rattle.card.specs.Rules.{brokenBy}
 use Rattle.card.specs.Outcome.{bench}
-use Rattle.card.specs.Events.{changed, ended, refused, accepted, played, laidInto, commanded, issued, blankSettings, blank, orderRefusal, personalised}
+use Rattle.card.specs.Events.{changed, ended, refused, accepted, played, laidInto, commanded, issued, blank, orderRefusal, personalised}
 
 -- frames sent one after the other to a new card, the replies, and the log's entries at the end
 pub record Edge : Type 0 where
@@ -42,17 +42,7 @@ pub record Seen : Type 0 where
 
 -- rights EEEEh everywhere, lower limit 0, LimitedCredit on, free GetValue off
 settings : ℤ → Settings
-settings upper =
-    record {
-      r00 = 0xEEEE;
-      r04 = 0xEEEE;
-      r1f = 0xEEEE;
-      r03 = 0xEEEE;
-      r01 = 0xEEEE;
-      limits = record { lower = pos 0; upper = upper };
-      limited = true;
-      free = false;
-    }
+settings upper = alike 0xEEEE (record { lower = pos 0; upper = upper }) true
 
 -- on the program's card: limits 0 and 1000, value 100
 abbrev on : List (List ℕ) → List (List ℕ) → Edge
@@ -141,5 +131,5 @@ pub expected : Edge → Seen
 expected e = record { replies = e .replies; entries = e .entries }
 
 pub edges-answered : map answered edges ≡ map expected edges
-unfolding answered expected edges played-on settings pick laid laidIn outsideOf le3 le4 four word files.sizeOf files.bytesOf files.zeros files.endOf files.shown files.written crossed within purse.resting purse.credited purse.debited purse.rebooked purse.settled purse.dropped figures.unequal figures.broken journal.blank journal.joined journal.shown journal.freshOr journal.written journal.cleared journal.pushed journal.resting journal.settled journal.dropped log.cut log.view log.some log.put log.broken log.empty rightsSound sealed granting accessOf wrongSize wrongClass wrongParameters wrongFrame onFile namesFile isFile suits rightsOf accessTo logPending rightsBroken unknownCommand lengthCases unknownFile otherKindOrNever notGranted switchedOff parameterCases ranged roomOf amountCases outside nothingPending rowsOf statusOf purseAfter journalAfter filesAfter changed shownOf view put brokenBy bench ended refused accepted played laidInto commanded issued blankSettings blank orderRefusal personalised
+unfolding answered expected edges played-on settings alike pick laid laidIn outsideOf le3 le4 four word files.sizeOf files.bytesOf files.zeros files.endOf files.shown files.written crossed within purse.resting purse.credited purse.debited purse.rebooked purse.settled purse.dropped figures.unequal figures.broken journal.blank journal.joined journal.shown journal.freshOr journal.written journal.cleared journal.pushed journal.resting journal.settled journal.dropped log.cut log.view log.some log.put log.broken log.empty rightsSound sealed granting accessOf wrongSize wrongClass wrongParameters wrongFrame onFile namesFile isFile suits rightsOf accessTo logPending rightsBroken unknownCommand lengthCases unknownFile otherKindOrNever notGranted switchedOff parameterCases ranged roomOf amountCases outside nothingPending rowsOf statusOf purseAfter journalAfter filesAfter changed shownOf view put brokenBy bench ended refused accepted played laidInto commanded issued blank orderRefusal personalised
 edges-answered = refl

@@ -1,6 +1,6 @@
 -- What personalisation fixes, and what it grants.
 use Prim.Native.Nat.{ℕ}
-use mathlib.Core.Bool.{Bool, not, _&&_}
+use mathlib.Core.Bool.{Bool, false, not, _&&_}
 use mathlib.Core.List.{[], _∷_}
 use lib.Dec.{eqb}
 use Rattle.tables.specs.Choice.{pick, any}
@@ -9,7 +9,12 @@ use Rattle.access.specs.declared.Session.{Session}
 use Rattle.access.specs.declared.Access.{Access}
 use Rattle.access.specs.Rights.{accessOf, rightsSound}
 use Rattle.columns.specs.Table.{value03, byRead, byWrite, getValue}
+use Rattle.limits.specs.declared.Limits.{Limits}
 use Rattle.settings.specs.declared.Settings.{Settings}
+
+-- the same rights for every file, and GetValue not free
+unfoldable pub alike : ℕ → Limits → Bool → Settings
+alike rights limits limited = record { r00 = rights; r04 = rights; r1f = rights; r03 = rights; r01 = rights; limits = limits; limited = limited; free = false }
 
 -- the rights of file n
 unfoldable pub rightsOf : Settings → ℕ → ℕ

@@ -6,7 +6,7 @@ use columns::table;
 use datafiles::Files;
 use limits::Limits;
 ghost use mathlib.Core.Path.{_≡_};
-ghost use Rattle.settings.specs.Settings.{rightsOf, accessTo, rightsBroken};
+ghost use Rattle.settings.specs.Settings.{alike, rightsOf, accessTo, rightsBroken};
 
 pub struct Settings {
     // The rights of files 00h, 04h, 1Fh, 03h and 01h.
@@ -22,6 +22,22 @@ pub struct Settings {
 }
 
 impl Settings {
+    // The same rights for every file, and GetValue not free.
+    pub fn alike(rights: u16, limits: Limits, limited: bool) -> Settings
+        ensures { λ r. ⌜ r ≡ alike rights limits limited ⌝ }
+    {
+        Settings {
+            r00: rights,
+            r04: rights,
+            r1f: rights,
+            r03: rights,
+            r01: rights,
+            limits,
+            limited,
+            free: false,
+        }
+    }
+
     // The rights of file n.
     pub fn rights(self, n: u8) -> u16
         ensures { λ r. ⌜ r ≡ rightsOf self n ⌝ }
