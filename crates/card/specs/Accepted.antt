@@ -10,7 +10,7 @@ use lib.ListN.{length}
 use mir.Syntax.{w32}
 use mir.Val.{ofZ}
 use native.Mathlib.Omega.{arith}
-use Rattle.tables.specs.Choice.{pick, none, picked, passed, pick-alike, pick-both, pick-cases, or-none, or-no}
+use Rattle.tables.specs.Choice.{pick, none, picked, passed, pick-alike, pick-cases, or-none, or-no}
 use Rattle.wire.specs.Bytes.{four, outsideOf}
 use Rattle.wire.specs.Laws.{length-four}
 use Rattle.datafiles.specs.Files as files

@@ -14,7 +14,6 @@ use Rattle.access.specs.declared.Session.{Session}
 use Rattle.settings.specs.declared.Settings.{Settings}
 use Rattle.settings.specs.Settings.{accessTo}
 use Rattle.frames.specs.Frame.{fileOf}
-use Rattle.commands.specs.declared.Places.{Places}
 use Rattle.commands.specs.State.{logPending}
 use Rattle.commands.specs.Rows.{unknownCommand, wrongLength, unknownFile, otherKindOrNever, notGranted, switchedOff, badParameter, outside, nothingPending}
 use Rattle.commands.specs.Places.{placesOf}

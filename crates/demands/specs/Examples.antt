@@ -1,6 +1,6 @@
 -- Computed examples on the rules paper's card: no model that is idle, refuses all, has one reply or stops after one transaction.
 use Prim.Native.Nat.{ℕ}
-use mathlib.Core.Bool.{true, false}
+use mathlib.Core.Bool.{true}
 use mathlib.Core.List.{List, [], _∷_, _++_}
 use mathlib.Core.Path.{_≡_, refl}
 use lib.IntN.{pos}

@@ -14,7 +14,6 @@ use Rattle.datafiles.specs.Files as files
 use Rattle.limits.specs.declared.Limits.{Limits}
 use Rattle.limits.specs.Limits.{crossed}
 use Rattle.purse.specs.declared.Purse.{Purse}
-use Rattle.purse.specs.Purse as purse
 use Rattle.purse.specs.Laws as purse-laws
 use Rattle.logbook.specs.Journal.{Journal}
 use Rattle.logbook.specs.Journal as journal
