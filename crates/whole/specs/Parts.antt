@@ -1,20 +1,17 @@
 -- A whole number z as two naturals: `above z` is how far it lies above 0, and `below z` how far below 0 (one of them is 0), so z is above z - below z.
 -- Orders, sums, differences and ranges of whole numbers are linear facts of these naturals, which `omega` reads:
---     order-in, order-out     a ≤ℤ b is  above a + below b ≤ above b + below a
---     leZ-yes, leZ-no         the test leZ from that order
---     test-yes, test-no       that order from the test
---     same-in, same-out       a ≡ b is  above a + below b ≡ above b + below a
+--     leZ-yes, leZ-no         the test leZ a b, from above a + below b and above b + below a
+--     test-yes, test-no       the order of these two, from the test
 --     sum, difference         the parts of a +ℤ b and a -ℤ b
 --     neg-above, neg-below    the parts of negℤ b
 --     range32, in32, in64     what SFits says, and SFits from it
--- Assumes nothing.
-use mathlib.Core.Path.{_≡_, refl, sym, ap, subst}
+use mathlib.Core.Path.{_≡_, refl, sym, subst}
 use mathlib.Core.Bool.{Bool, true, false, not, cond}
 use Prim.Native.Nat.{ℕ, zero, suc, _+_, _-_, _≤_, _<_}
 use native.Mathlib.Omega.{arith}
 use lib.Dec.{T, ltb, ltb→lt, nltb→le}
 use lib.IntN.{ℤ, pos, negsuc, negℤ, subℕ, _+ℤ_, _-ℤ_}
-use lib.Signed.{leZ, _≤ℤ_}
+use lib.Signed.{leZ}
 use borrow.Author.Tests.{le-leb, lt-leb, leb-true, leb-false}
 use mir.Syntax.{w32, w64}
 use mir.Val.{SFits}
@@ -53,18 +50,6 @@ test-no (pos a) (negsuc b) e = omega arith
 test-no (negsuc a) (pos b) e = absurd (subst T e tt)
 test-no (negsuc a) (negsuc b) e = omega (arith, leb-false b a e)
 
--- ---- the order
-
-pub order-in : {a b : ℤ} → above a + below b ≤ above b + below a → a ≤ℤ b
-order-in {a} {b} h = record { le = subst T (sym (leZ-yes a b h)) tt }
-
-is-true : (t : Bool) → T t → t ≡ true
-is-true true h = refl
-is-true false h = absurd h
-
-pub order-out : {a b : ℤ} → a ≤ℤ b → above a + below b ≤ above b + below a
-order-out {a} {b} h = test-yes a b (is-true (leZ a b) (h .le))
-
 -- ---- sums
 
 sub-parts : (a b : ℕ) → above (subℕ a b) + b ≡ below (subℕ a b) + a
@@ -92,17 +77,6 @@ neg-below (negsuc n) = refl
 
 pub difference : (a b : ℤ) → above (a -ℤ b) + (below a + above b) ≡ below (a -ℤ b) + (above a + below b)
 difference a b = omega (arith, sum a (negℤ b), neg-above b, neg-below b)
-
--- ---- equations
-
-pub same-in : (a b : ℤ) → above a + below b ≡ above b + below a → a ≡ b
-same-in (pos a) (pos b) h = ap pos (omega arith)
-same-in (pos a) (negsuc b) h = absurd (omega arith)
-same-in (negsuc a) (pos b) h = absurd (omega arith)
-same-in (negsuc a) (negsuc b) h = ap negsuc (omega arith)
-
-pub same-out : {a b : ℤ} → a ≡ b → above a + below b ≡ above b + below a
-same-out {a} {b} e = rw e refl
 
 -- ---- ranges
 
