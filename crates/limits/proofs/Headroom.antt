@@ -1,4 +1,4 @@
--- The amount against the headroom: what the limit tests of a rise and of a fall tell. Assumes nothing.
+-- The amount against the headroom: what the limit tests of a rise and of a fall tell.
 use mathlib.Core.Path.{_≡_, refl, sym}
 use mathlib.Core.Bool.{Bool, true, false, _&&_, and-comm}
 use Prim.Native.Nat.{ℕ, _+_, _≤_, _<_}

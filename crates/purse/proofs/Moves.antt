@@ -1,4 +1,4 @@
--- A value moved by an amount: where the limit test passes, the sum of 64 bits fits 32 bits too. Assumes nothing.
+-- A value moved by an amount: where the limit test passes, the sum of 64 bits fits 32 bits too.
 use borrow.Author.Tests.{not-true, not-false}
 use mathlib.Core.Path.{_≡_, _∙_, sym}
 use mathlib.Core.Bool.{Bool, true, false, not}

@@ -1,5 +1,5 @@
 -- A figure of 32 bits, moved by an amount of 32 bits in a sum of 64 bits: what the machine reads back at each step is the whole number, since it fits.
--- Assumes nothing.
+--
 use mathlib.Core.Path.{_≡_}
 use Prim.Native.Nat.{ℕ, _+_, _<_}
 use native.Mathlib.Omega.{arith}

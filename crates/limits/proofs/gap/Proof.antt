@@ -1,4 +1,4 @@
--- `limits::gap` meets its contract, by the signs of low and high. Of a low below 0, -(n + 1), the machine's !low is n. Assumes nothing.
+-- `limits::gap` meets its contract, by the signs of low and high. Of a low below 0, -(n + 1), the machine's !low is n.
 use mathlib.Core.Path.{_≡_, refl}
 use mathlib.Core.Bool.{true, false, _||_, true≢false}
 use Prim.Native.Nat.{suc, _+_, _-_, _≤_, _<_}

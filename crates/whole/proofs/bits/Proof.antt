@@ -1,4 +1,4 @@
--- `whole::bits` meets its contract, by the sign of x. Of a negative x, -(n + 1), the machine's !x is n. Assumes nothing.
+-- `whole::bits` meets its contract, by the sign of x. Of a negative x, -(n + 1), the machine's !x is n.
 use mathlib.Core.Path.{_≡_, refl, subst}
 use mathlib.Core.Bool.{true, false}
 use Prim.Native.Nat.{suc, _-_, _≤_}

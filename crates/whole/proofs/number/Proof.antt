@@ -1,4 +1,4 @@
--- `whole::number` meets its contract: below 2^31 the bits are the number; else !(2^32 - 1 - u) is u - 2^32. Assumes nothing.
+-- `whole::number` meets its contract: below 2^31 the bits are the number; else !(2^32 - 1 - u) is u - 2^32.
 use mathlib.Core.Path.{_≡_}
 use Prim.Native.Nat.{_-_}
 use native.Mathlib.Omega.{arith}

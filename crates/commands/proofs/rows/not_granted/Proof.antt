@@ -1,4 +1,4 @@
-use Rattle.columns.specs.Row.{told-file}
+use Rattle.columns.specs.Row.{told}
 use Rattle.commands.specs.Rows.{notGranted}
 use Rattle.commands.proofs.rows.not_granted.Statement.{statement}
 use Rattle.commands.proofs.rows.not_granted.Tie as tie
@@ -11,7 +11,7 @@ is-not-granted-requires c κs = tt
 
 returns : tie.Need-returns
 unfolding notGranted
-returns c = simp (c .before .is-not-granted .ensures, told-file _ (c .before .before .of-command .ensures))
+returns c = simp (c .before .is-not-granted .ensures, told _ (c .before .before .of-command .ensures) .0)
 
 pub not-granted-spec : {M : Type 1} → statement M
 not-granted-spec = tie.close (tie.spec of-command-requires is-not-granted-requires returns)

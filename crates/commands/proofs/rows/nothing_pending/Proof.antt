@@ -1,4 +1,4 @@
-use Rattle.columns.specs.Row.{told-ends}
+use Rattle.columns.specs.Row.{told}
 use Rattle.commands.specs.Rows.{nothingPending}
 use Rattle.commands.proofs.rows.nothing_pending.Statement.{statement}
 use Rattle.commands.proofs.rows.nothing_pending.Tie as tie
@@ -8,7 +8,7 @@ of-command-requires c κs = tt
 
 returns : tie.Need-returns
 unfolding nothingPending
-returns c = simp (told-ends _ (c .before .of-command .ensures))
+returns c = simp (told _ (c .before .of-command .ensures) .2)
 
 pub nothing-pending-spec : {M : Type 1} → statement M
 nothing-pending-spec = tie.close (tie.spec of-command-requires returns)

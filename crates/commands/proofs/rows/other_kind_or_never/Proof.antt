@@ -1,4 +1,4 @@
-use Rattle.columns.specs.Row.{told-file}
+use Rattle.columns.specs.Row.{told}
 use Rattle.commands.specs.Rows.{otherKindOrNever}
 use Rattle.commands.proofs.rows.other_kind_or_never.Statement.{statement}
 use Rattle.commands.proofs.rows.other_kind_or_never.Tie as tie
@@ -14,7 +14,7 @@ is-never-requires c κs = tt
 
 returns : tie.Need-returns
 unfolding otherKindOrNever
-returns c = simp (c .before .is-never .ensures, c .before .before .suits-file .ensures, told-file _ (c .before .before .before .of-command .ensures))
+returns c = simp (c .before .is-never .ensures, c .before .before .suits-file .ensures, told _ (c .before .before .before .of-command .ensures) .0)
 
 pub other-kind-or-never-spec : {M : Type 1} → statement M
 other-kind-or-never-spec =

@@ -1,4 +1,4 @@
-use Rattle.columns.specs.Row.{told-names, told-ends}
+use Rattle.columns.specs.Row.{told}
 use Rattle.commands.specs.Rows.{unknownCommand}
 use Rattle.commands.proofs.rows.unknown_command.Statement.{statement}
 use Rattle.commands.proofs.rows.unknown_command.Tie as tie
@@ -8,7 +8,7 @@ of-command-requires c κs = tt
 
 returns : tie.Need-returns
 unfolding unknownCommand
-returns c = simp (told-names _ (c .before .of-command .ensures), told-ends _ (c .before .of-command .ensures))
+returns c = simp (told _ (c .before .of-command .ensures) .1, told _ (c .before .of-command .ensures) .2)
 
 pub unknown-command-spec : {M : Type 1} → statement M
 unknown-command-spec = tie.close (tie.spec of-command-requires returns)

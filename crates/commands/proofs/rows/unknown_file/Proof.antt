@@ -1,4 +1,4 @@
-use Rattle.columns.specs.Row.{told-names}
+use Rattle.columns.specs.Row.{told}
 use Rattle.commands.specs.Rows.{unknownFile}
 use Rattle.commands.proofs.rows.unknown_file.Statement.{statement}
 use Rattle.commands.proofs.rows.unknown_file.Tie as tie
@@ -11,7 +11,7 @@ is-file-requires c κs = tt
 
 returns : tie.Need-returns
 unfolding unknownFile
-returns c = simp (c .before .is-file .ensures, told-names _ (c .before .before .of-command .ensures))
+returns c = simp (c .before .is-file .ensures, told _ (c .before .before .of-command .ensures) .1)
 
 pub unknown-file-spec : {M : Type 1} → statement M
 unknown-file-spec = tie.close (tie.spec of-command-requires is-file-requires returns)

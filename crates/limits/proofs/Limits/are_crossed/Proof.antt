@@ -1,4 +1,4 @@
--- `limits::Limits::are_crossed` meets its contract: the machine's test is the definition's. Assumes nothing.
+-- `limits::Limits::are_crossed` meets its contract: the machine's test is the definition's.
 use borrow.Author.Needs.{needs}
 use mir.Syntax.{w32}
 use mir.Val.{SFits}

@@ -1,4 +1,4 @@
--- `limits::Limits::hold` meets its contract: the machine's tests are the definition's. Assumes nothing.
+-- `limits::Limits::hold` meets its contract: the machine's tests are the definition's.
 use borrow.Author.Needs.{needs}
 use mir.Syntax.{w32}
 use mir.Val.{SFits}

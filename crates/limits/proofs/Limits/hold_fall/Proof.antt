@@ -1,4 +1,4 @@
--- `limits::Limits::hold_fall` meets its contract, by the law of a fall. Assumes nothing.
+-- `limits::Limits::hold_fall` meets its contract, by the law of a fall.
 use borrow.Author.Needs.{needs}
 use mir.Syntax.{w32}
 use mir.Val.{SFits}

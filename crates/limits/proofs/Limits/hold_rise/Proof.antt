@@ -1,4 +1,4 @@
--- `limits::Limits::hold_rise` meets its contract, by the law of a rise. Assumes nothing.
+-- `limits::Limits::hold_rise` meets its contract, by the law of a rise.
 use borrow.Author.Needs.{needs}
 use mir.Syntax.{w32}
 use mir.Val.{SFits}

@@ -1,4 +1,4 @@
--- `purse::Purse::breaks` meets its contract: its conditions are the definition's, one by one. Assumes nothing.
+-- `purse::Purse::breaks` meets its contract: its conditions are the definition's, one by one.
 use borrow.Author.Needs.{needs}
 use mir.Syntax.{w32}
 use mir.Val.{SFits}

@@ -1,4 +1,4 @@
--- `purse::Purse::commit` meets its contract, by whether a Debit is noted. Assumes nothing.
+-- `purse::Purse::commit` meets its contract, by whether a Debit is noted.
 use borrow.Author.Needs.{needs}
 use mir.Syntax.{w32}
 use mir.Val.{SFits}

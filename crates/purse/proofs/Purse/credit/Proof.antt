@@ -1,4 +1,4 @@
--- `purse::Purse::credit` meets its contract: a rise that leaves the allowance as it is. Assumes nothing.
+-- `purse::Purse::credit` meets its contract: a rise that leaves the allowance as it is.
 use borrow.Author.Needs.{needs}
 use Rattle.purse.specs.Purse.{credited}
 use Rattle.purse.specs.Guarded.{raiseIn, creditIn}

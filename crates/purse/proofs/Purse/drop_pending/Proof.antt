@@ -1,4 +1,4 @@
--- `purse::Purse::drop_pending` meets its contract: it is the purse at rest at its committed figures. Assumes nothing.
+-- `purse::Purse::drop_pending` meets its contract: it is the purse at rest at its committed figures.
 use borrow.Author.Needs.{needs}
 use mathlib.Core.Path.{refl}
 use mir.Syntax.{w32}

@@ -1,4 +1,4 @@
--- `purse::Purse::rebook` meets its contract: a rise that uses the allowance up, where that has the amount. Assumes nothing.
+-- `purse::Purse::rebook` meets its contract: a rise that uses the allowance up, where that has the amount.
 use borrow.Author.Needs.{needs}
 use borrow.Author.Tests.{le-leb, lt-leb}
 use mathlib.Core.Bool.{and-true}

@@ -1,4 +1,4 @@
--- `purse::Purse::resting` meets its contract: each field is the definition's. Assumes nothing.
+-- `purse::Purse::resting` meets its contract: each field is the definition's.
 use mir.Facts.{toZ-ofZ}
 use Rattle.purse.specs.Purse.{resting}
 use Rattle.purse.proofs.Purse.resting.Statement.{statement}

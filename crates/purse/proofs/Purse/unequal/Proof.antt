@@ -1,4 +1,4 @@
--- `purse::Purse::unequal` meets its contract: its tests are the definition's. Assumes nothing.
+-- `purse::Purse::unequal` meets its contract: its tests are the definition's.
 use mathlib.Core.Path.{refl}
 use Rattle.purse.specs.Rules.{unequal}
 use Rattle.purse.proofs.Purse.unequal.Statement.{statement}

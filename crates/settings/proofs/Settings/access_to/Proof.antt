@@ -1,4 +1,4 @@
-use Rattle.columns.specs.Row.{told-read, told-write}
+use Rattle.columns.specs.Row.{told}
 use Rattle.settings.specs.Settings.{accessTo}
 use Rattle.settings.proofs.Settings.access_to.Statement.{statement}
 use Rattle.settings.proofs.Settings.access_to.Tie as tie
@@ -14,7 +14,7 @@ decide-requires c κs = tt
 
 returns : tie.Need-returns
 unfolding accessTo
-returns c = let r = c .before .before in simp (c .decide .ensures, told-read _ (r .of-command .ensures), told-write _ (r .of-command .ensures), r .before .rights .ensures)
+returns c = let r = c .before .before in simp (c .decide .ensures, told _ (r .of-command .ensures) .3, told _ (r .of-command .ensures) .4, r .before .rights .ensures)
 
 pub access-to-spec : {M : Type 1} → statement M
 access-to-spec =
