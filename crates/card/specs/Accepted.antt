@@ -12,7 +12,6 @@ use mir.Val.{ofZ}
 use native.Mathlib.Omega.{arith}
 use Rattle.tables.specs.Choice.{pick, none, picked, passed, pick-alike, pick-cases, or-none, or-no}
 use Rattle.wire.specs.Bytes.{four, outsideOf}
-use Rattle.wire.specs.Laws.{length-four}
 use Rattle.datafiles.specs.Files as files
 use Rattle.datafiles.specs.Laws as datafiles
 use Rattle.limits.specs.declared.Limits.{Limits}
@@ -119,7 +118,7 @@ shown-small s i d fit e =
     let l = c .settings .limits in
     let o = inside c i d e in
     pick-cases (λ (x : List ℕ). length x ≤ 256) _ _ _ (λ t. datafiles.shown-small (s .files) _ _ _ (read-inside l (c .purse) _ d (at l (c .purse) _ d i readData o t)))
-    (λ _. pick-cases (λ (x : List ℕ). length x ≤ 256) _ _ _ (λ t. omega (arith, length-four (ofZ w32 (c .purse .value))))
+    (λ _. pick-cases (λ (x : List ℕ). length x ≤ 256) _ _ _ (λ t. omega arith)
     (λ _. pick-cases (λ (x : List ℕ). length x ≤ 256) _ _ _ (λ t. omega (arith, shown-room (c .journal) (offsetOf d) (lengthOf d) fit))
     (λ _. pick-cases (λ (x : List ℕ). length x ≤ 256) _ _ _ (λ t. omega (arith, described-small (c .settings) (c .purse .allowance) (length (c .journal .entries)) (fileOf d)))
     (λ _. omega arith))))

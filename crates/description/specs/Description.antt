@@ -2,31 +2,36 @@
 use Prim.Native.Nat.{ℕ, _+_}
 use mathlib.Core.List.{List, [], _∷_, _++_}
 use lib.Dec.{eqb, ltb}
+use lib.ListN.{take}
 use mir.Syntax.{w32}
 use mir.Val.{ofZ}
 use Rattle.tables.specs.Choice.{pick}
-use Rattle.wire.specs.Bytes.{two, three, four}
+use Rattle.wire.specs.Bytes.{four}
 use Rattle.datafiles.specs.Files.{sizeOf}
 use Rattle.logbook.specs.Journal.{entrySize, mostEntries}
 use Rattle.columns.specs.Table.{isData, value03}
 use Rattle.settings.specs.declared.Settings.{Settings}
 use Rattle.settings.specs.Settings.{rightsOf}
 
+-- the first bytes of a number, as many as its field is wide
+abbrev pub figure : ℕ → ℕ → List ℕ
+figure width v = take width (four v)
+
 -- file kind, option byte 00h and rights
-unfoldable pub headOf : ℕ → ℕ → List ℕ
-headOf kind rights = kind ∷ 0x00 ∷ two rights
+abbrev pub headOf : ℕ → ℕ → List ℕ
+headOf kind rights = kind ∷ 0x00 ∷ figure 2 rights
 
 -- then the size for data
-unfoldable pub ofData : ℕ → ℕ → List ℕ
-ofData rights size = headOf 0x00 rights ++ three size
+abbrev pub ofData : ℕ → ℕ → List ℕ
+ofData rights size = headOf 0x00 rights ++ figure 3 size
 
 -- lower limit, upper limit, committed allowance and the byte of switches for value
-unfoldable pub ofValue : ℕ → ℕ → ℕ → ℕ → ℕ → List ℕ
-ofValue rights lower upper allowance switches = headOf 0x02 rights ++ four lower ++ four upper ++ four allowance ++ (switches ∷ [])
+abbrev pub ofValue : ℕ → ℕ → ℕ → ℕ → ℕ → List ℕ
+ofValue rights lower upper allowance switches = headOf 0x02 rights ++ figure 4 lower ++ figure 4 upper ++ figure 4 allowance ++ figure 1 switches
 
 -- entry size, largest and committed number of entries for the log
-unfoldable pub ofLog : ℕ → ℕ → ℕ → ℕ → List ℕ
-ofLog rights size most entries = headOf 0x04 rights ++ three size ++ three most ++ three entries
+abbrev pub ofLog : ℕ → ℕ → ℕ → ℕ → List ℕ
+ofLog rights size most entries = headOf 0x04 rights ++ figure 3 size ++ figure 3 most ++ figure 3 entries
 
 -- the switches: bit 0 LimitedCredit on, bit 1 free GetValue
 unfoldable pub switchesOf : Settings → ℕ

@@ -4,71 +4,29 @@ use datafiles::Files;
 use logbook::Log;
 use settings::Settings;
 ghost use mathlib.Core.Path.{_≡_};
+ghost use Prim.Native.Nat.{_+_, _≤_};
 ghost use lib.ListN.{length};
 ghost use mir.Syntax.{w32};
 ghost use mir.Val.{ofZ};
-ghost use Rattle.wire.specs.Bytes.{Shows};
-ghost use Rattle.description.specs.Description.{ofData, ofValue, ofLog, switchesOf, describedIn};
+ghost use Rattle.wire.specs.Bytes.{laid, Shows};
+ghost use Rattle.description.specs.Description.{figure, headOf, ofValue, switchesOf, describedIn};
 
-// Of a data file.
-fn data_settings(rights: u16, size: usize) -> [u8; 7]
-    ensures { λ r. ⌜ r ≡ ofData rights size ⌝ }
+// Lays the first width bytes of v from a place on.
+fn lay_figure(v: u32, width: usize, at: usize, reply: &mut [u8])
+    requires { ⌜ (width ≤ 4) × (at + width ≤ length (now reply)) ⌝ }
+    ensures { λ r. ⌜ now (reply .exit) ≡ laid (now (reply .entry)) at (figure width v) ⌝ }
 {
-    [
-        0x00,
-        0x00,
-        (rights % 256) as u8,
-        (rights / 256 % 256) as u8,
-        (size % 256) as u8,
-        (size / 256 % 256) as u8,
-        (size / 65536 % 256) as u8,
-    ]
+    let bytes = wire::four_of(v);
+    wire::lay(reply, at, &bytes[0..width]);
 }
 
-// Of the value file, by the bits of its limits.
-fn value_bytes(rights: u16, lower: u32, upper: u32, allowance: u32, switches: u8) -> [u8; 17]
-    ensures { λ r. ⌜ r ≡ ofValue rights lower upper allowance switches ⌝ }
+// Lays kind, option byte 00h and rights over the front.
+fn lay_head(kind: u8, rights: u16, reply: &mut [u8])
+    requires { ⌜ 4 ≤ length (now reply) ⌝ }
+    ensures { λ r. ⌜ Shows (headOf kind rights) (now (reply .entry)) (now (reply .exit)) 4 ⌝ }
 {
-    [
-        0x02,
-        0x00,
-        (rights % 256) as u8,
-        (rights / 256 % 256) as u8,
-        (lower % 256) as u8,
-        (lower / 256 % 256) as u8,
-        (lower / 65536 % 256) as u8,
-        (lower / 16777216 % 256) as u8,
-        (upper % 256) as u8,
-        (upper / 256 % 256) as u8,
-        (upper / 65536 % 256) as u8,
-        (upper / 16777216 % 256) as u8,
-        (allowance % 256) as u8,
-        (allowance / 256 % 256) as u8,
-        (allowance / 65536 % 256) as u8,
-        (allowance / 16777216 % 256) as u8,
-        switches,
-    ]
-}
-
-// Of the log.
-fn log_settings(rights: u16, size: usize, most: usize, entries: usize) -> [u8; 13]
-    ensures { λ r. ⌜ r ≡ ofLog rights size most entries ⌝ }
-{
-    [
-        0x04,
-        0x00,
-        (rights % 256) as u8,
-        (rights / 256 % 256) as u8,
-        (size % 256) as u8,
-        (size / 256 % 256) as u8,
-        (size / 65536 % 256) as u8,
-        (most % 256) as u8,
-        (most / 256 % 256) as u8,
-        (most / 65536 % 256) as u8,
-        (entries % 256) as u8,
-        (entries / 256 % 256) as u8,
-        (entries / 65536 % 256) as u8,
-    ]
+    wire::lay(reply, 0, &[kind, 0x00]);
+    lay_figure(rights as u32, 2, 2, reply);
 }
 
 // Bit 0 LimitedCredit on, bit 1 free GetValue.
@@ -87,15 +45,18 @@ fn switches(settings: Settings) -> u8
     0
 }
 
-// Of the value file with these settings.
-fn value_settings(settings: Settings, rights: u16, allowance: u32) -> [u8; 17]
-    ensures { λ r. ⌜ r ≡ ofValue rights (ofZ w32 (settings .limits .lower)) (ofZ w32 (settings .limits .upper)) allowance (switchesOf settings) ⌝ }
+// Lays the settings of the value file over the front of reply.
+fn show_value(settings: Settings, rights: u16, allowance: u32, reply: &mut [u8]) -> usize
+    requires { ⌜ 17 ≤ length (now reply) ⌝ }
+    ensures { λ r. ⌜ Shows (ofValue rights (ofZ w32 (settings .limits .lower)) (ofZ w32 (settings .limits .upper)) allowance (switchesOf settings)) (now (reply .entry)) (now (reply .exit)) r ⌝ }
 {
     let limits = settings.limits;
-    let lower = whole::bits(limits.lower);
-    let upper = whole::bits(limits.upper);
-    let bits = switches(settings);
-    value_bytes(rights, lower, upper, allowance, bits)
+    lay_head(0x02, rights, reply);
+    lay_figure(whole::bits(limits.lower), 4, 4, reply);
+    lay_figure(whole::bits(limits.upper), 4, 8, reply);
+    lay_figure(allowance, 4, 12, reply);
+    lay_figure(switches(settings) as u32, 1, 16, reply);
+    17
 }
 
 // Lays the settings of file n over the front of reply.
@@ -107,16 +68,16 @@ pub fn show(settings: Settings, allowance: u32, entries: u8, n: u8, reply: &mut 
     }
     let rights = settings.rights(n);
     if columns::is_data(n) {
-        let bytes = data_settings(rights, Files::size(n));
-        wire::lay(reply, 0, &bytes);
+        lay_head(0x00, rights, reply);
+        lay_figure(Files::size(n) as u32, 3, 4, reply);
         return 7;
     }
     if n == table::VALUE_03 {
-        let bytes = value_settings(settings, rights, allowance);
-        wire::lay(reply, 0, &bytes);
-        return 17;
+        return show_value(settings, rights, allowance, reply);
     }
-    let bytes = log_settings(rights, Log::ENTRY, Log::MOST as usize, entries as usize);
-    wire::lay(reply, 0, &bytes);
+    lay_head(0x04, rights, reply);
+    lay_figure(Log::ENTRY as u32, 3, 4, reply);
+    lay_figure(Log::MOST as u32, 3, 7, reply);
+    lay_figure(entries as u32, 3, 10, reply);
     13
 }

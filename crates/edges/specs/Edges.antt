@@ -5,7 +5,7 @@ use mathlib.Core.List.{List, [], _∷_, map}
 use mathlib.Core.Path.{_≡_, refl}
 use lib.IntN.{ℤ, pos}
 use Rattle.tables.specs.Choice.{pick}
-use Rattle.wire.specs.Bytes.{laid, laidIn, outsideOf, le3, le4, four, word}
+use Rattle.wire.specs.Bytes.{laid, laidIn, outsideOf, le3, le4, word}
 use Rattle.datafiles.specs.Files as files
 use Rattle.limits.specs.Limits.{crossed, within}
 use Rattle.purse.specs.Purse as purse
@@ -131,5 +131,5 @@ pub expected : Edge → Seen
 expected e = record { replies = e .replies; entries = e .entries }
 
 pub edges-answered : map answered edges ≡ map expected edges
-unfolding answered expected edges played-on settings alike pick laid laidIn outsideOf le3 le4 four word files.sizeOf files.bytesOf files.zeros files.endOf files.shown files.written crossed within purse.resting purse.credited purse.debited purse.rebooked purse.settled purse.dropped figures.unequal figures.broken journal.blank journal.joined journal.shown journal.freshOr journal.written journal.cleared journal.pushed journal.resting journal.settled journal.dropped log.cut log.view log.some log.put log.broken log.empty rightsSound sealed granting accessOf wrongSize wrongClass wrongParameters wrongFrame onFile namesFile isFile suits rightsOf accessTo logPending rightsBroken unknownCommand lengthCases unknownFile otherKindOrNever notGranted switchedOff parameterCases ranged roomOf amountCases outside nothingPending rowsOf statusOf purseAfter journalAfter filesAfter changed shownOf view put brokenBy bench ended refused accepted played laidInto commanded issued blank orderRefusal personalised
+unfolding answered expected edges played-on settings alike pick laid laidIn outsideOf le3 le4 word files.sizeOf files.bytesOf files.zeros files.endOf files.shown files.written crossed within purse.resting purse.credited purse.debited purse.rebooked purse.settled purse.dropped figures.unequal figures.broken journal.blank journal.joined journal.shown journal.freshOr journal.written journal.cleared journal.pushed journal.resting journal.settled journal.dropped log.cut log.view log.some log.put log.broken log.empty rightsSound sealed granting accessOf wrongSize wrongClass wrongParameters wrongFrame onFile namesFile isFile suits rightsOf accessTo logPending rightsBroken unknownCommand lengthCases unknownFile otherKindOrNever notGranted switchedOff parameterCases ranged roomOf amountCases outside nothingPending rowsOf statusOf purseAfter journalAfter filesAfter changed shownOf view put brokenBy bench ended refused accepted played laidInto commanded issued blank orderRefusal personalised
 edges-answered = refl

@@ -4,22 +4,9 @@ use datafiles::Files;
 use logbook::Log;
 use purse::Purse;
 use settings::Settings;
-ghost use mathlib.Core.Path.{_≡_};
 ghost use lib.ListN.{length};
-ghost use Rattle.wire.specs.Bytes.{Shows, four};
+ghost use Rattle.wire.specs.Bytes.{Shows};
 ghost use Rattle.replies.specs.Guarded.{valueIn, shownIn};
-
-// The four bytes of v, least significant first.
-fn four_of(v: u32) -> [u8; 4]
-    ensures { λ r. ⌜ r ≡ four v ⌝ }
-{
-    [
-        (v % 256) as u8,
-        (v / 256 % 256) as u8,
-        (v / 65536 % 256) as u8,
-        (v / 16777216 % 256) as u8,
-    ]
-}
 
 // Lays the four bytes of a value over the front of reply, least significant first.
 fn show_value(value: i32, reply: &mut [u8]) -> usize
@@ -28,7 +15,7 @@ fn show_value(value: i32, reply: &mut [u8]) -> usize
     if reply.len() < 4 {
         return 0;
     }
-    let bytes = four_of(whole::bits(value));
+    let bytes = wire::four_of(whole::bits(value));
     wire::lay(reply, 0, &bytes);
     4
 }

@@ -2,7 +2,7 @@
 ghost use mathlib.Core.Path.{_≡_};
 ghost use Prim.Native.Nat.{_+_, _≤_};
 ghost use lib.ListN.{length, getD};
-ghost use Rattle.wire.specs.Bytes.{laid, laidIn, outsideOf, le3, le4};
+ghost use Rattle.wire.specs.Bytes.{laid, laidIn, outsideOf, le3, le4, four};
 
 // The byte at i, or 0 past the end.
 pub fn byte_at(s: &[u8], i: usize) -> u8
@@ -35,6 +35,18 @@ pub fn le4_at(s: &[u8], at: u8) -> u32
     let c = byte_at(s, i + 2);
     let d = byte_at(s, i + 3);
     a as u32 + 256 * (b as u32) + 65536 * (c as u32) + 16777216 * (d as u32)
+}
+
+// The four bytes of v, least significant first.
+pub fn four_of(v: u32) -> [u8; 4]
+    ensures { λ r. ⌜ r ≡ four v ⌝ }
+{
+    [
+        (v % 256) as u8,
+        (v / 256 % 256) as u8,
+        (v / 65536 % 256) as u8,
+        (v / 16777216 % 256) as u8,
+    ]
 }
 
 // Whether a range of len places from off on is outside a room of this size.

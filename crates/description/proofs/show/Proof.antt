@@ -1,6 +1,6 @@
-use Rattle.description.specs.Description.{ofData, ofValue, ofLog, described, describedIn}
-use Rattle.description.specs.Laws.{length-data, length-value, length-log}
-use Rattle.wire.specs.Laws.{shows-as, shows-none, shows-whole}
+use Rattle.description.specs.Description.{described, describedIn}
+use Rattle.datafiles.specs.Laws.{size-most}
+use Rattle.wire.specs.Laws.{shows-as, shows-none, shows-then}
 use Rattle.tables.specs.Choice.{hit, skip}
 use borrow.Author.Tests.{lt-ltb, le-ltb, eq-eqb, ne-eqb}
 use denote.Ref.{now}
@@ -20,17 +20,17 @@ rights-requires c κs = tt
 is-data-requires : tie.Need-is-data-requires
 is-data-requires c κs = tt
 
+lay-head-requires : tie.Need-lay-head-requires
+lay-head-requires c κs = search needs
+
 size-requires : tie.Need-size-requires
 size-requires c κs = tt
 
-data-settings-requires : tie.Need-data-settings-requires
-data-settings-requires c κs = tt
+cast-lay-figure : tie.Need-cast-lay-figure
+cast-lay-figure c = omega (arith, size-most (c .before .before .before .before .before .before .before .before .before .before .args .n))
 
-slice-aggregate-lay : tie.Need-slice-aggregate-lay
-slice-aggregate-lay c = search needs
-
-lay-requires : tie.Need-lay-requires
-lay-requires c κs = tt
+lay-figure-requires : tie.Need-lay-figure-requires
+lay-figure-requires c κs = search needs
 
 same-length : tie.Need-same-length
 same-length c = search needs
@@ -38,21 +38,17 @@ same-length c = search needs
 returns-2 : tie.Need-returns-2
 unfolding describedIn described
 returns-2 c =
-    let l = c .before .before in
-    let d = l .before .before .before in
-    let i = d .before .before .before in
+    let f = c .before .before in
+    let z = f .before .before in
+    let h = z .before .before .before in
+    let t = h .before .before in
+    let i = t .before in
     let r = i .before in
-    shows-as _ _ _ _ _ (skip _ _ _ (le-ltb _ _ (r .before .if1 .left)) (hit _ _ _ (sym (i .is-data .ensures) ∙ d .before .before .if2 .taken) refl))
-    (shows-whole (ofData _ _) _ _ 7 (length-data _ _) (omega arith) (simp (d .data-settings .ensures, d .before .size .ensures, r .rights .ensures) at (l .lay .ensures)))
+    shows-as _ _ _ _ _ (skip _ _ _ (le-ltb _ _ (r .before .if1 .left)) (hit _ _ _ (sym (i .is-data .ensures) ∙ t .if2 .taken) refl))
+    (simp (z .size .ensures, r .rights .ensures) at (shows-then _ _ _ (h .lay-head .ensures) (f .lay-figure .ensures)))
 
-value-settings-requires : tie.Need-value-settings-requires
-value-settings-requires c κs = tt
-
-slice-aggregate-lay-2 : tie.Need-slice-aggregate-lay-2
-slice-aggregate-lay-2 c = search needs
-
-lay-requires-2 : tie.Need-lay-requires-2
-lay-requires-2 c κs = tt
+show-value-requires : tie.Need-show-value-requires
+show-value-requires c κs = search needs
 
 same-length-2 : tie.Need-same-length-2
 same-length-2 c = search needs
@@ -60,24 +56,30 @@ same-length-2 c = search needs
 returns-3 : tie.Need-returns-3
 unfolding describedIn described
 returns-3 c =
-    let l = c .before .before in
-    let v = l .before .before .before in
-    let e = v .before .before in
+    let v = c .before .before in
+    let t = v .before .before in
+    let e = t .before in
     let r = e .before .before in
-    shows-as _ _ _ _ _ (skip _ _ _ (le-ltb _ _ (r .before .if1 .left)) (skip _ _ _ (sym (e .before .is-data .ensures) ∙ e .if2 .left) (hit _ _ _ (eq-eqb _ _ (v .before .if3 .taken)) refl)))
-    (shows-whole (ofValue _ _ _ _ _) _ _ 17 (length-value _ _ _ _ _) (omega arith) (simp (v .value-settings .ensures, r .rights .ensures) at (l .lay2 .ensures)))
+    shows-as _ _ _ _ _ (skip _ _ _ (le-ltb _ _ (r .before .if1 .left)) (skip _ _ _ (sym (e .before .is-data .ensures) ∙ e .if2 .left) (hit _ _ _ (eq-eqb _ _ (t .if3 .taken)) refl)))
+    (simp (r .rights .ensures) at (v .show-value .ensures))
 
-cast-log-settings : tie.Need-cast-log-settings
-cast-log-settings c = search needs
+lay-head-requires-2 : tie.Need-lay-head-requires-2
+lay-head-requires-2 c κs = search needs
 
-log-settings-requires : tie.Need-log-settings-requires
-log-settings-requires c κs = tt
+cast-lay-figure-2 : tie.Need-cast-lay-figure-2
+cast-lay-figure-2 c = search needs
 
-slice-aggregate-lay-3 : tie.Need-slice-aggregate-lay-3
-slice-aggregate-lay-3 c = search needs
+lay-figure-requires-2 : tie.Need-lay-figure-requires-2
+lay-figure-requires-2 c κs = search needs
 
-lay-requires-3 : tie.Need-lay-requires-3
-lay-requires-3 c κs = tt
+cast-lay-figure-3 : tie.Need-cast-lay-figure-3
+cast-lay-figure-3 c = search needs
+
+lay-figure-requires-3 : tie.Need-lay-figure-requires-3
+lay-figure-requires-3 c κs = search needs
+
+lay-figure-requires-4 : tie.Need-lay-figure-requires-4
+lay-figure-requires-4 c κs = search needs
 
 same-length-3 : tie.Need-same-length-3
 same-length-3 c = search needs
@@ -85,12 +87,15 @@ same-length-3 c = search needs
 returns-4 : tie.Need-returns-4
 unfolding describedIn described
 returns-4 c =
-    let l = c .before .before in
-    let g = l .before .before .before in
-    let e = g .before .before in
+    let k = c .before .before in
+    let m = k .before .before .before .before in
+    let z = m .before .before .before .before in
+    let h = z .before .before .before .before in
+    let o = h .before .before in
+    let e = o .before in
     let r = e .before .before in
-    shows-as _ _ _ _ _ (skip _ _ _ (le-ltb _ _ (r .before .if1 .left)) (skip _ _ _ (sym (e .before .is-data .ensures) ∙ e .if2 .left) (skip _ _ _ (ne-eqb _ _ (g .before .if3 .left)) refl)))
-    (shows-whole (ofLog _ _ _ _) _ _ 13 (length-log _ _ _ _) (omega arith) (simp (g .log-settings .ensures, r .rights .ensures) at (l .lay3 .ensures)))
+    shows-as _ _ _ _ _ (skip _ _ _ (le-ltb _ _ (r .before .if1 .left)) (skip _ _ _ (sym (e .before .is-data .ensures) ∙ e .if2 .left) (skip _ _ _ (ne-eqb _ _ (o .if3 .left)) refl)))
+    (simp (r .rights .ensures) at (shows-then _ _ _ (shows-then _ _ _ (shows-then _ _ _ (h .lay-head2 .ensures) (z .lay-figure2 .ensures)) (m .lay-figure3 .ensures)) (k .lay-figure4 .ensures)))
 
 pub show-spec : {M : Type 1} → statement M
 show-spec =
@@ -99,20 +104,20 @@ show-spec =
     returns
     rights-requires
     is-data-requires
+    lay-head-requires
     size-requires
-    data-settings-requires
-    slice-aggregate-lay
-    lay-requires
+    cast-lay-figure
+    lay-figure-requires
     same-length
     returns-2
-    value-settings-requires
-    slice-aggregate-lay-2
-    lay-requires-2
+    show-value-requires
     same-length-2
     returns-3
-    cast-log-settings
-    log-settings-requires
-    slice-aggregate-lay-3
-    lay-requires-3
+    lay-head-requires-2
+    cast-lay-figure-2
+    lay-figure-requires-2
+    cast-lay-figure-3
+    lay-figure-requires-3
+    lay-figure-requires-4
     same-length-3
     returns-4)

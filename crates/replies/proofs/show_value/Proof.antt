@@ -1,5 +1,5 @@
 use Rattle.replies.specs.Guarded.{valueIn}
-use Rattle.wire.specs.Laws.{laid-room, length-four, shows-as, shows-none}
+use Rattle.wire.specs.Laws.{shows-as, shows-none, shows-whole}
 use Rattle.wire.specs.Bytes.{four}
 use Rattle.tables.specs.Choice.{choice}
 use mir.Facts.{toZ-ofZ}
@@ -7,7 +7,7 @@ use mir.Val.{ofZ}
 use mir.Syntax.{w32}
 use denote.Ref.{now}
 use native.Mathlib.Omega.{arith}
-use mathlib.Core.Path.{sym, _∙_}
+use mathlib.Core.Path.{refl}
 use borrow.Author.Needs.{needs}
 use Rattle.replies.proofs.show_value.Statement.{statement}
 use Rattle.replies.proofs.show_value.Tie as tie
@@ -37,10 +37,7 @@ returns-2 c =
     let l = c .before .before in
     let f = l .before .before .before in
     let s = f .before .before .before .before in
-    let b = now (s .args .reply) in
-    let v = four (ofZ w32 (s .args .value)) in
-    let n = length-four (ofZ w32 (s .args .value)) in
-    shows-as v _ _ _ _ (search choice) (simp (f .four-of .ensures, f .before .bits .ensures, toZ-ofZ (s .fits .value)) at (l .lay .ensures) ∙ laid-room b 0 v (omega arith), sym n)
+    shows-as (four (ofZ w32 (s .args .value))) _ _ _ _ (search choice) (shows-whole _ _ _ 4 refl (omega arith) (simp (f .four-of .ensures, f .before .bits .ensures, toZ-ofZ (s .fits .value)) at (l .lay .ensures)))
 
 pub show-value-spec : {M : Type 1} → statement M
 show-value-spec =
