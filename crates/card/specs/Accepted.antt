@@ -33,6 +33,7 @@ use Rattle.commands.specs.State.{Core, State}
 use Rattle.commands.specs.Rows.{outside, ok, commandStatus}
 use Rattle.commands.specs.PlacesLaws.{entries-view}
 use Rattle.commands.specs.Laws.{inside, read-inside, entries-inside, credit-inside, debit-inside, rebook-inside}
+use Rattle.standing.specs.Parts.{logBroken}
 use Rattle.effects.specs.Effects.{purseAfter, journalAfter, filesAfter}
 use Rattle.effects.specs.Guarded.{purseIn}
 use Rattle.replies.specs.Replies.{shownOf}
@@ -75,7 +76,7 @@ purse-accepted c i d e = purse-inside (c .settings .limits) (c .purse) (length (
 
 -- ---- what is shown
 
-module _ (room : ℕ) (s : State) (l : Log) (d : List ℕ) (j : s .core .journal ≡ log.view l) (k : 256 ≤ room) (b : log.broken l ≡ false) where
+module _ (room : ℕ) (s : State) (l : Log) (d : List ℕ) (j : s .core .journal ≡ log.view l) (k : 256 ≤ room) (b : logBroken l ≡ false) where
   data-shown : outsideOf (files.sizeOf (fileOf d)) (offsetOf d) (lengthOf d) ≡ false
       → files.shownIn room (s .files) (fileOf d) (offsetOf d) (lengthOf d) ≡ files.shown (s .files) (fileOf d) (offsetOf d) (lengthOf d)
   unfolding files.shownIn
@@ -87,7 +88,7 @@ module _ (room : ℕ) (s : State) (l : Log) (d : List ℕ) (j : s .core .journal
 
   entries-shown : outsideOf (length (s .core .journal .entries)) (offsetOf d) (lengthOf d) ≡ false
       → records.shownIn room l (offsetOf d) (lengthOf d) ≡ journal.shown (s .core .journal) (offsetOf d) (lengthOf d)
-  unfolding records.shownIn log.broken
+  unfolding records.shownIn logBroken
   entries-shown e =
       let o : outsideOf (l .count) (offsetOf d) (lengthOf d) ≡ false = rw (j, entries-view l) at e in
       let r = le-ltb room 64 (omega arith) in

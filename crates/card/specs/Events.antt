@@ -22,8 +22,7 @@ use Rattle.commands.specs.Rows.{ok, statusOf}
 use Rattle.effects.specs.Effects.{purseAfter, journalAfter, filesAfter}
 use Rattle.replies.specs.Replies.{shownOf}
 use Rattle.card.specs.declared.Card.{Card}
-use Rattle.card.specs.View.{view, put}
-use Rattle.card.specs.Rules.{broken}
+use Rattle.card.specs.View.{view, put, broken}
 use Rattle.card.specs.Outcome.{Outcome, bench}
 
 -- ---- a command

@@ -8,7 +8,7 @@ use lib.Dec.{eqb}
 use lib.IntN.{ℤ}
 use lib.ListN.{length, length-append}
 use native.Mathlib.Omega.{arith}
-use Rattle.tables.specs.Choice.{pick, picked, passed, none}
+use Rattle.tables.specs.Choice.{pick, picked, passed}
 use Rattle.wire.specs.Bytes.{laid, laidIn, word, Shows}
 use Rattle.wire.specs.Laws.{laid-none, laid-behind, laid-room, length-word, length-laid}
 use Rattle.logbook.specs.declared.Log.{Log}
@@ -30,8 +30,8 @@ use Rattle.effects.specs.Guarded.{purseIn}
 use Rattle.replies.specs.Guarded.{shownIn}
 use Rattle.card.specs.declared.Card.{Card}
 use Rattle.card.specs.declared.Reply.{Reply}
-use Rattle.card.specs.View.{view, put}
-use Rattle.card.specs.Rules.{rules, brokenBy, broken}
+use Rattle.card.specs.View.{view, put, broken}
+use Rattle.standing.specs.Parts.{logBroken, log-few, parted}
 use Rattle.card.specs.Outcome.{Outcome, replyOf, Answered, bench}
 use Rattle.card.specs.Events.{changed, shown, ended, refused, accepted, played, laidInto, replyRoom, commanded, withSession, sessionChanged, poweredUp, issued, blank, orderRefusal, personalised}
 use Rattle.card.specs.Accepted.{purse-accepted, shown-accepted, shown-small, shows-changes-nothing, quiet-shows-nothing}
@@ -42,9 +42,8 @@ unfolding put view
 put-view c = ap (λ (l : Log). record { settings = c .settings; files = c .files; purse = c .purse; log = l; session = c .session }) (logbook.put-view (c .log))
 
 -- a card that breaks no rule has a log that breaks none
-pub log-unbroken : (c : Card) → broken c ≡ false → log.broken (c .log) ≡ false
-unfolding brokenBy
-log-unbroken c e = none (rules (c .settings) (c .purse) (c .log) (c .session)) e .1 .1 .1 .0
+pub log-unbroken : (c : Card) → broken c ≡ false → logBroken (c .log) ≡ false
+log-unbroken c e = parted (c .settings) (c .purse) (c .log) (c .session) e .1 .1 .1 .0
 
 -- ---- replies
 
@@ -70,7 +69,7 @@ unfolding view
 accepted-shows c i d b b₁ n e r room ls le s =
     let u = log-unbroken c r in
     let q = shown-accepted (length b) (view c) (c .log) d refl (omega arith) u i e in
-    let m = shown-small (view c) i d (fit-view (c .log) u ls le) e in
+    let m = shown-small (view c) i d (fit-view (c .log) (log-few (c .log) u) ls le) e in
     let t : n ≡ length (shown (view c) i d) = s .1 ∙ ap length q in
     ((cc, t), omega arith)
 

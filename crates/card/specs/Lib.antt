@@ -1,5 +1,4 @@
 pub mod View
-pub mod Rules
 pub mod Outcome
 pub mod Events
 pub mod Order

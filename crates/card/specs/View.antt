@@ -1,10 +1,12 @@
 -- The card as the program holds it, and the state that it stands for. They differ in the log alone.
+use mathlib.Core.Bool.{Bool}
 use Rattle.commands.specs.State.{Core, State}
 use Rattle.settings.specs.declared.Settings.{Settings}
 use Rattle.purse.specs.declared.Purse.{Purse}
 use Rattle.logbook.specs.declared.Log.{Log}
 use Rattle.logbook.specs.View as log
 use Rattle.access.specs.declared.Session.{Session}
+use Rattle.standing.specs.Rules.{brokenBy}
 use Rattle.card.specs.declared.Card.{Card}
 
 abbrev pub coreOf : Settings → Purse → Log → Session → Core
@@ -23,3 +25,7 @@ put c s =
       log = log.put (c .log) (s .core .journal);
       session = s .core .session;
     }
+
+-- the card breaks a standing rule
+abbrev pub broken : Card → Bool
+broken c = brokenBy (c .settings) (c .purse) (c .log) (c .session)

@@ -15,8 +15,7 @@ ghost use lib.ListN.{length};
 ghost use Rattle.commands.specs.Rows.{commandStatus, ok};
 ghost use Rattle.wire.specs.Bytes.{laidIn, word};
 ghost use Rattle.columns.specs.Table.{writeData, shows};
-ghost use Rattle.card.specs.View.{view, put};
-ghost use Rattle.card.specs.Rules.{brokenBy, broken};
+ghost use Rattle.card.specs.View.{view, put, broken};
 ghost use Rattle.card.specs.Outcome.{replyOf, Answered};
 ghost use Rattle.card.specs.Events.{changed, ended, accepted, laidInto, replyRoom, commanded, sessionChanged, poweredUp, personalised};
 
@@ -67,19 +66,6 @@ impl Card {
     pub const OUTSIDE: u16 = 0x91BE;
 
     pub const NOTHING_PENDING: u16 = 0x910C;
-
-    // Whether a standing rule is broken.
-    fn breaks(settings: Settings, purse: Purse, log: Log, session: Session) -> bool
-        ensures { λ r. ⌜ r ≡ brokenBy settings purse log session ⌝ }
-    {
-        let limits = settings.limits;
-        let rights = settings.has_wrong_rights();
-        let crossed = limits.are_crossed();
-        let known = session.is_sound();
-        let in_log = log.breaks();
-        let in_purse = purse.breaks(limits, log.adds | log.clears);
-        rights | crossed | !known | in_log | in_purse
-    }
 
     // The card with its session ended and pending work dropped.
     fn ended(self) -> Card
@@ -176,7 +162,7 @@ impl Card {
                 len: 0,
             };
         }
-        if Card::breaks(settings, purse, log, session) {
+        if standing::breaks(settings, purse, log, session) {
             return Reply {
                 card: self,
                 refusal: 6,
@@ -239,7 +225,7 @@ impl Card {
         let purse = self.purse;
         let log = self.log;
         let old = self.session;
-        if Card::breaks(settings, purse, log, old) {
+        if standing::breaks(settings, purse, log, old) {
             return Reply {
                 card: self,
                 refusal: 6,
@@ -268,7 +254,7 @@ impl Card {
         let purse = self.purse;
         let log = self.log;
         let session = self.session;
-        if Card::breaks(settings, purse, log, session) {
+        if standing::breaks(settings, purse, log, session) {
             return Reply {
                 card: self,
                 refusal: 6,

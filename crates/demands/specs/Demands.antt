@@ -16,8 +16,7 @@ use Rattle.settings.specs.declared.Settings.{Settings}
 use Rattle.commands.specs.Rows.{rowsOf, ok, statusOf}
 use Rattle.card.specs.declared.Card.{Card}
 use Rattle.card.specs.declared.Reply.{Reply}
-use Rattle.card.specs.View.{view}
-use Rattle.card.specs.Rules.{broken}
+use Rattle.card.specs.View.{view, broken}
 use Rattle.card.specs.Outcome.{Answered}
 use Rattle.card.specs.Events.{refused, accepted, laidInto, commanded, issued, orderRefusal}
 use Rattle.demands.specs.Books.{booked}

@@ -10,7 +10,6 @@ use Rattle.wire.specs.Bytes.{laid, laidIn, outsideOf, le3, le4, word}
 use Rattle.datafiles.specs.Files as files
 use Rattle.limits.specs.Limits.{crossed, within}
 use Rattle.purse.specs.Purse as purse
-use Rattle.purse.specs.Rules as purse-rules
 use Rattle.logbook.specs.Journal as journal
 use Rattle.logbook.specs.View as log
 use Rattle.access.specs.Rights as access
@@ -24,7 +23,7 @@ use Rattle.commands.specs.Rows as rows
 use Rattle.effects.specs.Effects as effects
 use Rattle.replies.specs.Replies.{shownOf}
 use Rattle.card.specs.View as card
-use Rattle.card.specs.Rules as rules
+use Rattle.standing.specs.Rules as rules
 use Rattle.card.specs.Outcome as outcomes
 use Rattle.card.specs.Events as events
 use Rattle.demands.specs.Strike.{followed, strike, posts, part, through}
@@ -36,7 +35,7 @@ program = settings.alike 0xEEEE (record { lower = pos 0; upper = pos 1000 }) tru
 
 -- the replies along a history of the program's card; to unfold this is to unfold all that a computed reply needs
 unfoldable pub replies : List Event → List Said
-unfolding pick laid laidIn outsideOf le3 le4 word files.sizeOf files.bytesOf files.zeros files.endOf files.shown files.written crossed within purse.resting purse.credited purse.debited purse.rebooked purse.settled purse.dropped purse-rules.unequal purse-rules.broken journal.blank journal.joined journal.shown journal.freshOr journal.written journal.cleared journal.pushed journal.resting journal.settled journal.dropped log.cut log.view log.some log.put log.empty log.broken access.rightsSound access.sealed access.granting access.accessOf frame.wrongSize frame.wrongClass frame.wrongParameters frame.wrongFrame table.onFile table.namesFile table.isFile table.suits settings.rightsOf settings.accessTo settings.rightsBroken state.logPending rows.unknownCommand rows.lengthCases rows.unknownFile rows.otherKindOrNever rows.notGranted rows.switchedOff rows.parameterCases rows.ranged rows.roomOf rows.amountCases rows.outside rows.nothingPending rows.rowsOf rows.statusOf effects.purseAfter effects.journalAfter effects.filesAfter shownOf card.view card.put rules.brokenBy outcomes.replyOf outcomes.bench events.changed events.ended events.refused events.accepted events.played events.laidInto events.commanded events.withSession events.sessionChanged events.poweredUp events.issued outcome said along run settings.alike program
+unfolding pick laid laidIn outsideOf le3 le4 word files.sizeOf files.bytesOf files.zeros files.endOf files.shown files.written crossed within purse.resting purse.credited purse.debited purse.rebooked purse.settled purse.dropped rules.unequal journal.blank journal.joined journal.shown journal.freshOr journal.written journal.cleared journal.pushed journal.resting journal.settled journal.dropped log.cut log.view log.some log.put log.empty access.rightsSound access.sealed access.granting access.accessOf frame.wrongSize frame.wrongClass frame.wrongParameters frame.wrongFrame table.onFile table.namesFile table.isFile table.suits settings.rightsOf settings.accessTo settings.rightsBroken state.logPending rows.unknownCommand rows.lengthCases rows.unknownFile rows.otherKindOrNever rows.notGranted rows.switchedOff rows.parameterCases rows.ranged rows.roomOf rows.amountCases rows.outside rows.nothingPending rows.rowsOf rows.statusOf effects.purseAfter effects.journalAfter effects.filesAfter shownOf card.view card.put rules.brokenBy outcomes.replyOf outcomes.bench events.changed events.ended events.refused events.accepted events.played events.laidInto events.commanded events.withSession events.sessionChanged events.poweredUp events.issued outcome said along run settings.alike program
 replies es = along next said (events.issued program (pos 100)) es
 
 -- the books over such a history

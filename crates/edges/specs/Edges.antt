@@ -9,7 +9,6 @@ use Rattle.wire.specs.Bytes.{laid, laidIn, outsideOf, le3, le4, word}
 use Rattle.datafiles.specs.Files as files
 use Rattle.limits.specs.Limits.{crossed, within}
 use Rattle.purse.specs.Purse as purse
-use Rattle.purse.specs.Rules as figures
 use Rattle.logbook.specs.Journal as journal
 use Rattle.logbook.specs.View as log
 use Rattle.access.specs.Rights.{rightsSound, sealed, granting, accessOf}
@@ -23,7 +22,7 @@ use Rattle.effects.specs.Effects.{purseAfter, journalAfter, filesAfter}
 use Rattle.replies.specs.Replies.{shownOf}
 use Rattle.card.specs.declared.Card.{Card}
 use Rattle.card.specs.View.{view, put}
-use Rattle.card.specs.Rules.{brokenBy}
+use Rattle.standing.specs.Rules.{unequal, brokenBy}
 use Rattle.card.specs.Outcome.{bench}
 use Rattle.card.specs.Events.{changed, ended, refused, accepted, played, laidInto, commanded, issued, blank, orderRefusal, personalised}
 
@@ -131,5 +130,5 @@ pub expected : Edge → Seen
 expected e = record { replies = e .replies; entries = e .entries }
 
 pub edges-answered : map answered edges ≡ map expected edges
-unfolding answered expected edges played-on settings alike pick laid laidIn outsideOf le3 le4 word files.sizeOf files.bytesOf files.zeros files.endOf files.shown files.written crossed within purse.resting purse.credited purse.debited purse.rebooked purse.settled purse.dropped figures.unequal figures.broken journal.blank journal.joined journal.shown journal.freshOr journal.written journal.cleared journal.pushed journal.resting journal.settled journal.dropped log.cut log.view log.some log.put log.broken log.empty rightsSound sealed granting accessOf wrongSize wrongClass wrongParameters wrongFrame onFile namesFile isFile suits rightsOf accessTo logPending rightsBroken unknownCommand lengthCases unknownFile otherKindOrNever notGranted switchedOff parameterCases ranged roomOf amountCases outside nothingPending rowsOf statusOf purseAfter journalAfter filesAfter changed shownOf view put brokenBy bench ended refused accepted played laidInto commanded issued blank orderRefusal personalised
+unfolding answered expected edges played-on settings alike pick laid laidIn outsideOf le3 le4 word files.sizeOf files.bytesOf files.zeros files.endOf files.shown files.written crossed within purse.resting purse.credited purse.debited purse.rebooked purse.settled purse.dropped unequal journal.blank journal.joined journal.shown journal.freshOr journal.written journal.cleared journal.pushed journal.resting journal.settled journal.dropped log.cut log.view log.some log.put log.empty rightsSound sealed granting accessOf wrongSize wrongClass wrongParameters wrongFrame onFile namesFile isFile suits rightsOf accessTo logPending rightsBroken unknownCommand lengthCases unknownFile otherKindOrNever notGranted switchedOff parameterCases ranged roomOf amountCases outside nothingPending rowsOf statusOf purseAfter journalAfter filesAfter changed shownOf view put brokenBy bench ended refused accepted played laidInto commanded issued blank orderRefusal personalised
 edges-answered = refl

@@ -1,25 +1,23 @@
 -- What fits: a log's journal, what each step makes of one that fits, and its lengths.
 use Prim.Native.Nat.{ℕ, _+_, _-_, _≤_}
-use mathlib.Core.Bool.{false, _&&_}
 use mathlib.Core.List.{List, [], _∷_, reverse}
 use mathlib.Core.Path.{_≡_, refl, _∙_}
-use borrow.Author.Tests.{ltb-false, leb-true}
-use lib.Dec.{eqb, ltb, leb}
+use borrow.Author.Tests.{leb-true}
+use lib.Dec.{eqb, leb}
 use lib.ListN.{length, take, drop, length-take, length-drop, length-reverse}
 use native.Mathlib.Omega.{arith}
-use Rattle.tables.specs.Choice.{pick, pick-both, pick-cases, or-no}
+use Rattle.tables.specs.Choice.{pick, pick-both, pick-cases}
 use Rattle.wire.specs.Bytes.{laid, laidIn}
 use Rattle.wire.specs.Laws.{length-laid}
 use Rattle.logbook.specs.declared.Log.{Log}
 use Rattle.logbook.specs.Journal.{Journal, blank, joined, shown, freshOr, written, cleared, pushed, resting, settled, dropped}
-use Rattle.logbook.specs.View.{view, broken}
+use Rattle.logbook.specs.View.{view}
 use Rattle.logbook.specs.Fit.{Sixteens, Fit}
 use Rattle.logbook.specs.Entries.{length-cut, length-joined, sixteens-cut, sixteens-take, sixteens-drop, sixteens-reverse}
 
-pub fit-view : (l : Log) → broken l ≡ false → length (l .slots) ≡ 64 → length (l .entry) ≡ 16 → Fit (view l)
-unfolding view broken
-fit-view l b s e =
-    let few = ltb-false 4 (l .count) (or-no (ltb 4 (l .count)) (l .adds && l .clears) b .0) in
+pub fit-view : (l : Log) → l .count ≤ 4 → length (l .slots) ≡ 64 → length (l .entry) ≡ 16 → Fit (view l)
+unfolding view
+fit-view l few s e =
     let n = length-cut (l .count) (l .slots) in
     record {
       sized = sixteens-cut (l .count) (l .slots) (omega arith);

@@ -1,13 +1,12 @@
 -- The log as the program holds it, and the journal that it stands for.
 use Prim.Native.Nat.{ℕ, zero, suc}
 use mathlib.Core.List.{List, [], _∷_}
-use mathlib.Core.Bool.{Bool, true, false, _&&_, _||_}
-use lib.Dec.{ltb}
+use mathlib.Core.Bool.{Bool, true, false}
 use lib.ListN.{length, take, drop, replicate}
 use Rattle.tables.specs.Choice.{pick}
 use Rattle.wire.specs.Bytes.{laid}
 use Rattle.logbook.specs.declared.Log.{Log}
-use Rattle.logbook.specs.Journal.{Journal, entrySize, mostEntries, blank, joined, freshOr}
+use Rattle.logbook.specs.Journal.{Journal, entrySize, blank, joined, freshOr}
 
 -- the first n entries of the bytes bs
 unfoldable pub cut : ℕ → List ℕ → List (List ℕ)
@@ -36,7 +35,3 @@ put l j =
 -- no entry, nothing pending, and every byte 0
 unfoldable pub empty : Log
 empty = record { slots = replicate 64 0; count = 0; entry = blank; adds = false; clears = false }
-
--- a standing rule of the log is broken: at most four entries; no new entry beside a clear
-unfoldable pub broken : Log → Bool
-broken l = ltb mostEntries (l .count) || (l .adds && l .clears)

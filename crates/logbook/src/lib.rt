@@ -3,7 +3,7 @@ ghost use Prim.Native.Nat.{min};
 ghost use mathlib.Core.List.{[], _∷_};
 ghost use mathlib.Core.Path.{_≡_};
 ghost use Rattle.logbook.specs.Journal.{blank, freshOr, pushed, resting, written, cleared, settled, dropped};
-ghost use Rattle.logbook.specs.View.{view, put, empty, broken};
+ghost use Rattle.logbook.specs.View.{view, put, empty};
 
 pub struct Log {
     // Committed entries: the first count slots.
@@ -122,12 +122,5 @@ impl Log {
         self.adds = false;
         self.clears = false;
         self
-    }
-
-    // Whether a standing rule of the log is broken.
-    pub fn breaks(self) -> bool
-        ensures { λ r. ⌜ r ≡ broken self ⌝ }
-    {
-        (Self::MOST < self.count) | (self.adds & self.clears)
     }
 }

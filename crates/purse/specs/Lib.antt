@@ -1,4 +1,2 @@
 pub mod Purse
-pub mod Rules
 pub mod Guarded
-pub mod Laws

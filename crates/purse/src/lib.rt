@@ -2,7 +2,6 @@
 use limits::Limits;
 ghost use mathlib.Core.Path.{_≡_};
 ghost use Rattle.purse.specs.Purse.{heldSum, resting, settled, dropped};
-ghost use Rattle.purse.specs.Rules.{unequal, broken};
 ghost use Rattle.purse.specs.Guarded.{raiseIn, creditIn, debitIn, rebookIn};
 
 pub struct Purse {
@@ -106,25 +105,5 @@ impl Purse {
         ensures { λ r. ⌜ r ≡ dropped self ⌝ }
     {
         Purse::resting(self.value, self.allowance)
-    }
-
-    // Whether the pending figures differ from the committed ones, or a Debit is noted.
-    fn unequal(self) -> bool
-        ensures { λ r. ⌜ r ≡ unequal self ⌝ }
-    {
-        (self.value != self.pending) | (self.left != self.allowance) | self.debited
-    }
-
-    // Whether a standing rule of the purse is broken; log_pending: a new entry or a clear is pending.
-    pub fn breaks(self, limits: Limits, log_pending: bool) -> bool
-        ensures { λ r. ⌜ r ≡ broken limits self «log_pending» ⌝ }
-    {
-        !limits.hold(self.value)
-            | !limits.hold(self.pending)
-            | (Purse::LARGEST < self.allowance)
-            | (self.allowance < self.left)
-            | (Purse::LARGEST < self.debits)
-            | (!self.debited & (self.debits != 0))
-            | (!(self.moved | log_pending) & self.unequal())
     }
 }

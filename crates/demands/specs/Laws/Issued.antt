@@ -9,14 +9,14 @@ use Rattle.tables.specs.Reasons.{Reason, _when_, no-reason}
 use Rattle.datafiles.specs.Files as files
 use Rattle.limits.specs.Limits.{crossed, within}
 use Rattle.purse.specs.Purse as purse
-use Rattle.purse.specs.Laws as purse-laws
+use Rattle.standing.specs.Laws as rules-laws
 use Rattle.logbook.specs.View as log
 use Rattle.logbook.specs.Journal as journal
 use Rattle.logbook.specs.Laws as logbook
 use Rattle.settings.specs.declared.Settings.{Settings}
 use Rattle.settings.specs.Settings.{rightsBroken}
 use Rattle.card.specs.View.{view}
-use Rattle.card.specs.Rules.{brokenBy}
+use Rattle.standing.specs.Parts.{logBroken, joined}
 use Rattle.card.specs.Events.{issued, orderRefusal}
 use Rattle.demands.specs.History.{booksOf}
 use Rattle.demands.specs.Demands.{Kept, Taken}
@@ -29,12 +29,12 @@ module _ (s : Settings) (v : ℤ) (e : Taken s v) where
   reasons = (1 when rightsBroken s) ∷ (2 when crossed (s .limits)) ∷ (3 when not (within (s .limits) v)) ∷ []
 
   pub issued-kept : Kept (issued s v)
-  unfolding issued orderRefusal reasons brokenBy log.broken log.empty files.zeros journal.blank
+  unfolding issued orderRefusal reasons logBroken log.empty files.zeros journal.blank
   issued-kept =
       let n = no-reason reasons 0 refl e in
-      let figures = purse-laws.resting-sound (s .limits) v 0 false (not-false _ (n .1 .1 .0)) (omega arith) in
+      let figures = rules-laws.resting-sound (s .limits) v 0 false (not-false _ (n .1 .1 .0)) (omega arith) in
       record {
-        rules = simp (n .0, n .1 .0, purse-laws.unbroken figures);
+        rules = joined _ _ _ _ (n .0, (n .1 .0, (refl, (refl, (rules-laws.unbroken figures, tt)))));
         f00 = refl;
         f04 = refl;
         f1f = refl;

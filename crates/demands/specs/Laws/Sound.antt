@@ -14,7 +14,7 @@ use Rattle.datafiles.specs.Files as files
 use Rattle.limits.specs.declared.Limits.{Limits}
 use Rattle.limits.specs.Limits.{crossed}
 use Rattle.purse.specs.declared.Purse.{Purse}
-use Rattle.purse.specs.Laws as purse-laws
+use Rattle.standing.specs.Laws as rules-laws
 use Rattle.logbook.specs.Journal.{Journal}
 use Rattle.logbook.specs.Journal as journal
 use Rattle.logbook.specs.View as log
@@ -44,7 +44,7 @@ pub record Sound (s : State) : Type 0 where
   pub rights : rightsBroken (s .core .settings) ≡ false
   pub limits : crossed (s .core .settings .limits) ≡ false
   pub session : sessionSound (s .core .session) ≡ true
-  pub figures : purse-laws.Sound (s .core .settings .limits) (s .core .purse) (logPending (s .core .journal))
+  pub figures : rules-laws.Sound (s .core .settings .limits) (s .core .purse) (logPending (s .core .journal))
   pub journal : Fit (s .core .journal)
   pub apart : both (s .core .journal) ≡ false
   pub files : Sized (s .files)
@@ -52,22 +52,22 @@ pub record Sound (s : State) : Type 0 where
 -- ---- an accepted command, part by part
 
 -- something new is pending on the log, and the purse is as it was
-log-pends : {l : Limits} {p : Purse} {b : Bool} → purse-laws.Sound l p b → purse-laws.Sound l p true
+log-pends : {l : Limits} {p : Purse} {b : Bool} → rules-laws.Sound l p b → rules-laws.Sound l p true
 log-pends {l} {p} h = record { value = h .value; pending = h .pending; allowance = h .allowance; left = h .left; debits = h .debits; noted = h .noted; equal = rw (or-true (p .moved)) }
 
 module _ (c : Core) (d : List ℕ) where
-  figures-kept : purse-laws.Sound (c .settings .limits) (c .purse) (logPending (c .journal)) → (i : ℕ) → commandStatus c i d ≡ ok
-      → purse-laws.Sound (c .settings .limits) (purseAfter i d (c .purse)) (logPending (journalAfter i d (c .journal)))
+  figures-kept : rules-laws.Sound (c .settings .limits) (c .purse) (logPending (c .journal)) → (i : ℕ) → commandStatus c i d ≡ ok
+      → rules-laws.Sound (c .settings .limits) (purseAfter i d (c .purse)) (logPending (journalAfter i d (c .journal)))
   unfolding purseAfter journalAfter pick logPending journal.written journal.cleared log.some
   figures-kept h =
-      by-name (λ i. commandStatus c i d ≡ ok → purse-laws.Sound (c .settings .limits) (purseAfter i d (c .purse)) (logPending (journalAfter i d (c .journal))))
-      (λ e. purse-laws.credited-sound _ h _ (credit-inside _ _ _ d (inside c credit d e)))
-      (λ e. purse-laws.debited-sound _ h _ (debit-inside _ _ _ d (inside c debit d e)))
-      (λ e. purse-laws.rebooked-sound _ h _ (not-false _ (rebook-inside _ _ _ d (inside c limitedCredit d e) .0)))
+      by-name (λ i. commandStatus c i d ≡ ok → rules-laws.Sound (c .settings .limits) (purseAfter i d (c .purse)) (logPending (journalAfter i d (c .journal))))
+      (λ e. rules-laws.credited-sound _ h _ (credit-inside _ _ _ d (inside c credit d e)))
+      (λ e. rules-laws.debited-sound _ h _ (debit-inside _ _ _ d (inside c debit d e)))
+      (λ e. rules-laws.rebooked-sound _ h _ (not-false _ (rebook-inside _ _ _ d (inside c limitedCredit d e) .0)))
       (λ e. log-pends h)
       (λ e. log-pends h)
-      (λ e. purse-laws.settled-sound _ h)
-      (λ e. purse-laws.dropped-sound _ h)
+      (λ e. rules-laws.settled-sound _ h)
+      (λ e. rules-laws.dropped-sound _ h)
       (λ i o e. rw (purse-other i d (c .purse) o, journal-other i d (c .journal) o) h)
 
   journal-kept : Fit (c .journal) → (i : ℕ) → Fit (journalAfter i d (c .journal))
@@ -133,7 +133,7 @@ ended-sound s h =
       rights = h .rights;
       limits = h .limits;
       session = refl;
-      figures = purse-laws.dropped-sound _ (h .figures);
+      figures = rules-laws.dropped-sound _ (h .figures);
       journal = fit-dropped _ (h .journal);
       apart = refl;
       files = h .files;

@@ -7,11 +7,12 @@ use native.Mathlib.Omega.{arith}
 use borrow.Author.Tests.{not-false, le-ltb, eqb-true}
 use lib.Dec.{eqb, ltb}
 use lib.ListN.{length}
-use Rattle.tables.specs.Choice.{pick, pick-cases, passed, none, not-no, or-no, or-none}
+use Rattle.tables.specs.Choice.{pick, pick-cases, passed, not-no, or-no, or-none}
 use Rattle.wire.specs.Laws.{length-laid}
-use Rattle.purse.specs.Laws as purse-laws
+use Rattle.standing.specs.Laws as rules-laws
 use Rattle.logbook.specs.declared.Log.{Log}
-use Rattle.logbook.specs.Journal.{Journal, joined}
+use Rattle.logbook.specs.Journal.{Journal}
+use Rattle.logbook.specs.Journal as journal
 use Rattle.logbook.specs.View as log
 use Rattle.logbook.specs.Laws as logbook
 use Rattle.logbook.specs.FitLaws.{fit-view, joined-room}
@@ -20,7 +21,7 @@ use Rattle.commands.specs.Rows.{ok, statusOf}
 use Rattle.commands.specs.Laws.{command-ok}
 use Rattle.card.specs.declared.Card.{Card}
 use Rattle.card.specs.View.{view, put}
-use Rattle.card.specs.Rules.{rules, brokenBy}
+use Rattle.standing.specs.Parts.{logBroken, log-few, parted, joined}
 use Rattle.card.specs.Outcome.{Outcome}
 use Rattle.card.specs.Events.{Played, ended, refused, accepted, played, laidInto, withSession, sessionChanged, poweredUp}
 use Rattle.commands.specs.PlacesLaws.{pending-view}
@@ -40,15 +41,15 @@ some-view l = by (l .adds)
     by false = refl
 
 pub sound-view : (c : Card) → Kept c → Sound (view c)
-unfolding view brokenBy log.view log.broken
+unfolding view log.view logBroken
 sound-view c h =
-    let n = none (rules (c .settings) (c .purse) (c .log) (c .session)) (h .rules) in
+    let n = parted (c .settings) (c .purse) (c .log) (c .session) (h .rules) in
     record {
       rights = n .0;
       limits = n .1 .0;
       session = not-false _ (n .1 .1 .0);
-      figures = rw (pending-view (c .log)) (purse-laws.sound (n .1 .1 .1 .1 .0));
-      journal = fit-view (c .log) (n .1 .1 .1 .0) (h .slots) (h .entry);
+      figures = rw (pending-view (c .log)) (rules-laws.sound (n .1 .1 .1 .1 .0));
+      journal = fit-view (c .log) (log-few (c .log) (n .1 .1 .1 .0)) (h .slots) (h .entry);
       apart = rw (some-view (c .log)) (or-no (ltb 4 (c .log .count)) _ (n .1 .1 .1 .0) .1);
       files = record { f00 = h .f00; f04 = h .f04; f1f = h .f1f };
     }
@@ -56,15 +57,15 @@ sound-view c h =
 -- a sound state, laid into a card, is a card that keeps the rules and stands for that state
 
 pub put-kept : (c : Card) (s : State) → Kept c → Sound s → Kept (put c s)
-unfolding put brokenBy log.put log.broken logPending
+unfolding put log.put logBroken logPending
 put-kept c s k h =
     let room = joined-room (s .core .journal) (h .journal) in
     record {
-      rules = simp (h .rights, h .limits, h .session, or-none _ _ (le-ltb 4 (length (s .core .journal .entries)) (h .journal .few)) (h .apart), purse-laws.unbroken (h .figures));
+      rules = joined _ _ _ _ (h .rights, (h .limits, (not-no _ (h .session), (or-none _ _ (le-ltb 4 (length (s .core .journal .entries)) (h .journal .few)) (h .apart), (rules-laws.unbroken (h .figures), tt)))));
       f00 = h .files .f00;
       f04 = h .files .f04;
       f1f = h .files .f1f;
-      slots = length-laid (c .log .slots) 0 (joined (s .core .journal .entries)) (omega (arith, k .slots)) ∙ k .slots;
+      slots = length-laid (c .log .slots) 0 (journal.joined (s .core .journal .entries)) (omega (arith, k .slots)) ∙ k .slots;
       entry = fresh-sized (c .log .entry) (s .core .journal .fresh) (k .entry) (h .journal .fresh-sized);
     }
 

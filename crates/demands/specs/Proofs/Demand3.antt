@@ -8,7 +8,7 @@ use lib.ListN.{length}
 use Rattle.tables.specs.Choice.{pick-both}
 use Rattle.datafiles.specs.Files.{zeros}
 use Rattle.purse.specs.Purse as purse
-use Rattle.purse.specs.Laws as purse-laws
+use Rattle.standing.specs.Laws as rules-laws
 use Rattle.logbook.specs.Journal as journal
 use Rattle.access.specs.declared.Session.the-variants.{Nobody}
 use Rattle.settings.specs.declared.Settings.{Settings}
@@ -72,11 +72,11 @@ module _ (s : Settings) (v : ℤ) (t : Taken s v) (es : List Event) where
   unfolding view issued
   settings = ap (λ (x : State). x .core .settings) (view-run (issued s v) (issued-kept s v t) es) ∙ settings-run (view (issued s v)) es
 
-  figures : purse-laws.Sound (s .limits) (reached s v es .purse) (logPending (view (reached s v es) .core .journal))
+  figures : rules-laws.Sound (s .limits) (reached s v es .purse) (logPending (view (reached s v es) .core .journal))
   unfolding view
   figures =
       let c = reached s v es in
-      subst (λ (x : Settings). purse-laws.Sound (x .limits) (c .purse) (logPending (view c .core .journal))) settings (sound-view c (run-kept (issued s v) (issued-kept s v t) es) .figures)
+      subst (λ (x : Settings). rules-laws.Sound (x .limits) (c .purse) (logPending (view c .core .journal))) settings (sound-view c (run-kept (issued s v) (issued-kept s v t) es) .figures)
 
 pub demand3 : (s : Settings) (v : ℤ) → Taken s v → (es : List Event) → Demand3 s v es
 demand3 s v t es = record { books = books s v t es; files = files s v t es; settings = settings s v t es; value-inside = figures s v t es .value; pending-inside = figures s v t es .pending }

@@ -2,8 +2,7 @@ use Rattle.card.specs.declared.Card.{Card}
 use Rattle.card.specs.Events.{replyRoom}
 use Rattle.card.specs.Laws.{bench-answers, answered-as, command-short, command-broken, command-refused, command-taken, command-shows, command-quiet, moved}
 use Rattle.card.specs.Order.{status-told}
-use Rattle.card.specs.Rules.{broken}
-use Rattle.card.specs.View.{view}
+use Rattle.card.specs.View.{view, broken}
 use Rattle.commands.specs.Rows.{ok, statusOf}
 use borrow.Author.Tests.{ne-eqb}
 use borrow.Author.Needs.{needs}

@@ -1,4 +1,4 @@
--- A purse at rest breaks no standing rule, and each command's effect keeps them where its test passes.
+-- A value file at rest breaks no standing rule, and each command's effect keeps them where its test passes.
 use Prim.Native.Nat.{ℕ, _≤_}
 use mathlib.Core.Path.{_≡_, refl}
 use mathlib.Core.Bool.{Bool, true, false, not, _&&_, _||_}
@@ -11,11 +11,13 @@ use mir.Val.{ofZ}
 use Rattle.tables.specs.Choice.{none, and-right, pick-both}
 use Rattle.limits.specs.declared.Limits.{Limits}
 use Rattle.limits.specs.Limits.{within}
 use Rattle.purse.specs.declared.Purse.{Purse}
 use Rattle.purse.specs.Purse.{largest, resting, credited, debited, rebooked, settled, dropped}
-use Rattle.purse.specs.Rules.{unequal, rules, broken}
+use Rattle.standing.specs.Rules.{unequal}
+use Rattle.standing.specs.Parts.{valueRules, valueBroken}
 
--- the rules, one by one
+-- ---- the rules of the value file, one by one
+
 pub record Sound (l : Limits) (p : Purse) (logPending : Bool) : Type 0 where
   pub value : within l (p .value) ≡ true
   pub pending : within l (p .pending) ≡ true
@@ -25,10 +27,10 @@ pub record Sound (l : Limits) (p : Purse) (logPending : Bool) : Type 0 where
   pub noted : (not (p .debited) && not (eqb (p .debits) 0)) ≡ false
   pub equal : (not (p .moved || logPending) && unequal p) ≡ false
 
-pub sound : {l : Limits} {p : Purse} {b : Bool} → broken l p b ≡ false → Sound l p b
-unfolding broken
+pub sound : {l : Limits} {p : Purse} {b : Bool} → valueBroken l p b ≡ false → Sound l p b
+unfolding valueBroken
 sound {l} {p} {b} e =
-    let k = none (rules l p b) e in
+    let k = none (valueRules l p b) e in
     record {
       value = not-false _ (k .0);
       pending = not-false _ (k .1 .0);
@@ -39,8 +41,8 @@ sound {l} {p} {b} e =
       equal = k .1 .1 .1 .1 .1 .1 .0;
     }
 
-pub unbroken : {l : Limits} {p : Purse} {b : Bool} → Sound l p b → broken l p b ≡ false
-unfolding broken
+pub unbroken : {l : Limits} {p : Purse} {b : Bool} → Sound l p b → valueBroken l p b ≡ false
+unfolding valueBroken
 unbroken s = simp (s .value, s .pending, le-ltb _ _ (s .allowance), le-ltb _ _ (s .left), le-ltb _ _ (s .debits), s .noted, s .equal)
 
 -- ---- at rest

@@ -1,0 +1,37 @@
+use Rattle.standing.specs.Parts.{by-parts}
+use Rattle.standing.proofs.breaks.Statement.{statement}
+use Rattle.standing.proofs.breaks.Tie as tie
+
+has-wrong-rights-requires : tie.Need-has-wrong-rights-requires
+has-wrong-rights-requires c κs = tt
+
+are-crossed-requires : tie.Need-are-crossed-requires
+are-crossed-requires c κs = tt
+
+is-sound-requires : tie.Need-is-sound-requires
+is-sound-requires c κs = tt
+
+log-breaks-requires : tie.Need-log-breaks-requires
+log-breaks-requires c κs = tt
+
+value-breaks-requires : tie.Need-value-breaks-requires
+value-breaks-requires c κs = tt
+
+returns : tie.Need-returns
+returns c =
+    let l = c .before .before in
+    let s = l .before in
+    let x = s .before in
+    let a = x .before .before .before .args in
+    rw (x .before .has-wrong-rights .ensures, x .are-crossed .ensures, s .is-sound .ensures, l .log-breaks .ensures, c .value-breaks .ensures) (by-parts (a .settings) (a .purse) (a .log) (a .session))
+
+pub breaks-spec : {M : Type 1} → statement M
+breaks-spec =
+    tie.close
+    (tie.spec
+    has-wrong-rights-requires
+    are-crossed-requires
+    is-sound-requires
+    log-breaks-requires
+    value-breaks-requires
+    returns)

@@ -1,0 +1,69 @@
+-- The same rules as the code asks them, part by part.
+use Prim.Native.Nat.{_≤_}
+use mathlib.Core.List.{List, [], _∷_}
+use mathlib.Core.Bool.{Bool, false, not, _&&_, _||_}
+use mathlib.Core.Path.{_≡_}
+use borrow.Author.Tests.{ltb-false}
+use lib.Dec.{ltb, eqb}
+use Rattle.tables.specs.Choice.{any, None, none, no-any, or-no, or-none, fail-alike}
+use Rattle.limits.specs.declared.Limits.{Limits}
+use Rattle.limits.specs.Limits.{crossed, within}
+use Rattle.purse.specs.declared.Purse.{Purse}
+use Rattle.purse.specs.Purse.{largest}
+use Rattle.logbook.specs.declared.Log.{Log}
+use Rattle.logbook.specs.Journal.{mostEntries}
+use Rattle.access.specs.declared.Session.{Session}
+use Rattle.access.specs.Rights.{sessionSound}
+use Rattle.settings.specs.declared.Settings.{Settings}
+use Rattle.settings.specs.Settings.{rightsBroken}
+use Rattle.standing.specs.Rules.{unequal, rules, brokenBy}
+
+-- of the value file; logPending: a new entry or a clear is pending
+abbrev pub valueRules : Limits → Purse → Bool → List Bool
+valueRules l p logPending =
+    not (within l (p .value))
+    ∷ not (within l (p .pending))
+    ∷ ltb largest (p .allowance)
+    ∷ ltb (p .allowance) (p .left)
+    ∷ ltb largest (p .debits)
+    ∷ (not (p .debited) && not (eqb (p .debits) 0))
+    ∷ (not (p .moved || logPending) && unequal p)
+    ∷ []
+
+unfoldable pub valueBroken : Limits → Purse → Bool → Bool
+valueBroken l p logPending = any (valueRules l p logPending)
+
+-- of the log
+unfoldable pub logBroken : Log → Bool
+logBroken l = ltb mostEntries (l .count) || (l .adds && l .clears)
+
+pub log-few : (l : Log) → logBroken l ≡ false → l .count ≤ mostEntries
+unfolding logBroken
+log-few l e = ltb-false _ _ (or-no _ _ e .0)
+
+-- of a card
+abbrev pub parts : Settings → Purse → Log → Session → List Bool
+parts s p l k =
+    rightsBroken s
+    ∷ crossed (s .limits)
+    ∷ not (sessionSound k)
+    ∷ logBroken l
+    ∷ valueBroken (s .limits) p (l .adds || l .clears)
+    ∷ []
+
+module _ (s : Settings) (p : Purse) (l : Log) (k : Session) where
+  pub parted : brokenBy s p l k ≡ false → None (parts s p l k)
+  unfolding brokenBy logBroken valueBroken
+  parted e =
+      let (rights, (limits, (value, (pending, (few, (session, (allowance, (left, (apart, (debits, (noted, (equal, t)))))))))))) = none (rules s p l k) e in
+      (rights, (limits, (session, (or-none _ _ few apart, (no-any (valueRules (s .limits) p (l .adds || l .clears)) (value, (pending, (allowance, (left, (debits, (noted, (equal, tt))))))), tt)))))
+
+  pub joined : None (parts s p l k) → brokenBy s p l k ≡ false
+  unfolding brokenBy logBroken valueBroken
+  joined (rights, (limits, (session, (log, (figures, t))))) =
+      let (few, apart) = or-no _ _ log in
+      let (value, (pending, (allowance, (left, (debits, (noted, (equal, u))))))) = none (valueRules (s .limits) p (l .adds || l .clears)) figures in
+      no-any (rules s p l k) (rights, (limits, (value, (pending, (few, (session, (allowance, (left, (apart, (debits, (noted, (equal, tt))))))))))))
+
+  pub by-parts : any (parts s p l k) ≡ brokenBy s p l k
+  by-parts = fail-alike _ _ (λ e. joined (none (parts s p l k) e)) (λ e. no-any (parts s p l k) (parted e))

@@ -1,0 +1,51 @@
+-- The standing rules, which bench refusal 6 tests.
+use mathlib.Core.List.{List, [], _∷_}
+use mathlib.Core.Bool.{Bool, not, _&&_, _||_}
+use lib.Dec.{ltb, eqb}
+use lib.IntN.{ℤ}
+use mir.Syntax.{w32}
+use mir.Val.{ofZ}
+use Rattle.tables.specs.Choice.{any}
+use Rattle.limits.specs.Limits.{crossed, within}
+use Rattle.purse.specs.declared.Purse.{Purse}
+use Rattle.purse.specs.Purse.{largest}
+use Rattle.logbook.specs.declared.Log.{Log}
+use Rattle.logbook.specs.Journal.{mostEntries}
+use Rattle.access.specs.declared.Session.{Session}
+use Rattle.access.specs.Rights.{sessionSound}
+use Rattle.settings.specs.declared.Settings.{Settings}
+use Rattle.settings.specs.Settings.{rightsBroken}
+
+-- two figures of 32 bits are the same where their bits are
+abbrev pub same : ℤ → ℤ → Bool
+same a b = eqb (ofZ w32 a) (ofZ w32 b)
+
+-- pending and committed figures differ, or a Debit is noted
+unfoldable pub unequal : Purse → Bool
+unequal p =
+    any
+    (not (same (p .value) (p .pending))
+    ∷ not (eqb (p .left) (p .allowance))
+    ∷ p .debited
+    ∷ [])
+
+-- in the paper's order, those behind bench refusals 1 to 3 first; each line says that one rule is broken
+abbrev pub rules : Settings → Purse → Log → Session → List Bool
+rules s p l k =
+    rightsBroken s
+    ∷ crossed (s .limits)
+    ∷ not (within (s .limits) (p .value))
+    ∷ not (within (s .limits) (p .pending))
+    ∷ ltb mostEntries (l .count)
+    ∷ not (sessionSound k)
+    ∷ ltb largest (p .allowance)
+    ∷ ltb (p .allowance) (p .left)
+    ∷ (l .adds && l .clears)
+    ∷ ltb largest (p .debits)
+    ∷ (not (p .debited) && not (eqb (p .debits) 0))
+    ∷ (not (p .moved || (l .adds || l .clears)) && unequal p)
+    ∷ []
+
+-- a card of these parts breaks a standing rule
+unfoldable pub brokenBy : Settings → Purse → Log → Session → Bool
+brokenBy s p l k = any (rules s p l k)

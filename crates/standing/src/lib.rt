@@ -1,0 +1,49 @@
+// The standing rules, which every card keeps.
+use access::Session;
+use limits::Limits;
+use logbook::Log;
+use purse::Purse;
+use settings::Settings;
+ghost use mathlib.Core.Path.{_≡_};
+ghost use Rattle.standing.specs.Rules.{unequal, brokenBy};
+ghost use Rattle.standing.specs.Parts.{valueBroken, logBroken};
+
+// Whether the pending figures differ from the committed ones, or a Debit is noted.
+fn unequal(purse: Purse) -> bool
+    ensures { λ r. ⌜ r ≡ unequal purse ⌝ }
+{
+    (purse.value != purse.pending) | (purse.left != purse.allowance) | purse.debited
+}
+
+// Those of the value file; log_pending: a new entry or a clear is pending.
+fn value_breaks(purse: Purse, limits: Limits, log_pending: bool) -> bool
+    ensures { λ r. ⌜ r ≡ valueBroken limits purse «log_pending» ⌝ }
+{
+    !limits.hold(purse.value)
+        | !limits.hold(purse.pending)
+        | (Purse::LARGEST < purse.allowance)
+        | (purse.allowance < purse.left)
+        | (Purse::LARGEST < purse.debits)
+        | (!purse.debited & (purse.debits != 0))
+        | (!(purse.moved | log_pending) & unequal(purse))
+}
+
+// Those of the log.
+fn log_breaks(log: Log) -> bool
+    ensures { λ r. ⌜ r ≡ logBroken log ⌝ }
+{
+    (Log::MOST < log.count) | (log.adds & log.clears)
+}
+
+// Whether a card of these parts breaks a standing rule.
+pub fn breaks(settings: Settings, purse: Purse, log: Log, session: Session) -> bool
+    ensures { λ r. ⌜ r ≡ brokenBy settings purse log session ⌝ }
+{
+    let limits = settings.limits;
+    let rights = settings.has_wrong_rights();
+    let crossed = limits.are_crossed();
+    let known = session.is_sound();
+    let in_log = log_breaks(log);
+    let in_value = value_breaks(purse, limits, log.adds | log.clears);
+    rights | crossed | !known | in_log | in_value
+}
