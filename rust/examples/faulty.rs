@@ -1,6 +1,7 @@
 //! A bench program with one fault, for testing `compare`: a command answered
-//! 91BE leaves the card as it was, instead of ending the session and dropping
-//! pending work. With the argument `crash`, it ends after ten lines instead.
+//! 91BE, or the status given as an argument, leaves the card as it was, instead
+//! of ending the session and dropping pending work. With the argument `crash`,
+//! it ends after ten lines instead.
 
 #![forbid(unsafe_code)]
 
@@ -8,7 +9,9 @@ use card_reference::bench::Bench;
 use std::io::{self, BufRead, Write};
 
 fn main() -> io::Result<()> {
-    let crash = std::env::args().any(|argument| argument == "crash");
+    let fault = std::env::args().nth(1).unwrap_or_else(|| "91BE".to_owned());
+    let crash = fault == "crash";
+    let kept = format!("{fault}\n");
     let mut output = io::BufWriter::new(io::stdout().lock());
     let mut bench = Bench::new();
     let mut answer = Vec::new();
@@ -21,7 +24,7 @@ fn main() -> io::Result<()> {
         answer.clear();
         bench.line(&line?, &mut answer);
         output.write_all(&answer)?;
-        if answer == b"91BE\n" && !crash {
+        if answer == kept.as_bytes() {
             bench = before;
         }
     }

@@ -4,26 +4,35 @@
 //! |---|---|---|
 //! | hexadecimal digits, an even number, at least two | a command | the reply, or `!5` |
 //! | empty | a power-up | an empty line |
-//! | `P` and 46 digits | personalises a card | `!0`, or `!1` to `!3` beside the blank card |
+//! | `P` and 46 or 208 digits | personalises a card | `!0`, or `!1` to `!3` beside the blank card |
 //! | `S` and 2 digits, or `S` | a session change, or no session | `!0` or `!4` |
 //! | `R` and 4 digits | the length of the reply buffer, at most 0200h | `!0` |
+//! | `N` and 40 digits | the card's random number and transaction identifier | `!0` |
 //! | `B` | nothing | the books |
 //! | any other, or more than 1,024 characters | nothing | `?` |
 
-use crate::model::{BenchRefusal, Card, Personalisation, REPLY_ROOM};
+use crate::hex::{decode, put_hex};
+use crate::model::{
+    BenchRefusal, Card, Inputs, Mode, Personalisation, Session, KEYS, PROGRAM_CARD, REPLY_ROOM,
+};
 use std::io::Write;
 
 /// The most characters a line may have.
 pub const LONGEST_LINE: usize = 1024;
 /// The longest reply buffer an `R` line may lend.
 pub const LONGEST_ROOM: usize = 0x200;
-/// Bytes that follow the `P` of a personalisation line.
-pub const PERSONALISATION_BYTES: usize = 23;
+/// Bytes of the first group of a personalisation line: rights, limits, value
+/// and switches.
+pub const BASE_GROUP: usize = 23;
+/// Bytes of its second group, which may be missing: keys and modes.
+pub const KEY_GROUP: usize = 16 * KEYS + 1;
 
 /// The bench with the card it holds.
 #[derive(Clone, Debug)]
 pub struct Bench {
     card: Card,
+    /// What is handed in with each event.
+    inputs: Inputs,
     /// The reply buffer lent to commands.
     reply: Vec<u8>,
     /// The bytes of the line at hand.
@@ -37,10 +46,12 @@ impl Default for Bench {
 }
 
 impl Bench {
-    /// A bench that holds the program's card and lends 258 bytes.
+    /// A bench that holds the program's card, hands in zeros and lends 258
+    /// bytes.
     pub fn new() -> Self {
         Self {
             card: Card::program_card(),
+            inputs: Inputs::default(),
             reply: vec![0; REPLY_ROOM],
             bytes: Vec::with_capacity(LONGEST_LINE / 2),
         }
@@ -49,6 +60,11 @@ impl Bench {
     /// The card held.
     pub fn card(&self) -> &Card {
         &self.card
+    }
+
+    /// What is handed in with each event.
+    pub fn inputs(&self) -> &Inputs {
+        &self.inputs
     }
 
     /// The length of the reply buffer lent to commands.
@@ -88,9 +104,12 @@ impl Bench {
                 }
                 _ => return None,
             },
+            [b'N', digits @ ..] => {
+                self.inputs = inputs(self.decode(digits)?)?;
+                put_outcome(Ok(()), out);
+            }
             [b'P', digits @ ..] => {
-                let bytes = self.decode(digits)?;
-                let with = personalisation(bytes.try_into().ok()?);
+                let with = personalisation(self.decode(digits)?)?;
                 let (card, outcome) = match Card::personalise(&with) {
                     Ok(card) => (card, Ok(())),
                     Err(refusal) => (Card::blank(), Err(refusal)),
@@ -100,7 +119,10 @@ impl Bench {
             }
             digits => {
                 self.decode(digits)?;
-                match self.card.command(&self.bytes, &mut self.reply) {
+                match self
+                    .card
+                    .command(&self.bytes, &self.inputs, &mut self.reply)
+                {
                     Ok(length) => put_hex(&self.reply[..length], out),
                     Err(refusal) => put_outcome(Err(refusal), out),
                 }
@@ -111,13 +133,8 @@ impl Bench {
 
     /// The bytes of an even number of hexadecimal digits of either case.
     fn decode(&mut self, digits: &[u8]) -> Option<&[u8]> {
-        if digits.len() % 2 != 0 {
-            return None;
-        }
         self.bytes.clear();
-        for pair in digits.chunks_exact(2) {
-            self.bytes.push((digit(pair[0])? << 4) | digit(pair[1])?);
-        }
+        decode(digits, &mut self.bytes)?;
         Some(&self.bytes)
     }
 
@@ -146,14 +163,33 @@ impl Bench {
             out.push(b'-');
         }
         match books.session {
-            Some(key) => write!(out, " {key}").expect("a Vec takes every write"),
-            None => out.extend_from_slice(b" -"),
+            Session::None => write!(out, " -"),
+            Session::Bench(key) => write!(out, " {key}"),
+            Session::Real(real) => write!(out, " {}:{}", real.key_number, real.counter),
+            Session::Waiting(first) => write!(out, " {}?", first.key_number),
         }
+        .expect("a Vec takes every write");
     }
 }
 
-/// The figures of a `P` line, least significant byte first.
-fn personalisation(bytes: &[u8; PERSONALISATION_BYTES]) -> Personalisation {
+/// The settings of a `P` line, which ends after either group; none if it ends
+/// elsewhere.
+fn personalisation(bytes: &[u8]) -> Option<Personalisation> {
+    if bytes.len() != BASE_GROUP && bytes.len() != BASE_GROUP + KEY_GROUP {
+        return None;
+    }
+    let (base, rest) = bytes.split_at(BASE_GROUP);
+    let with = base_group(base);
+    Some(if rest.is_empty() {
+        with
+    } else {
+        key_group(with, rest)
+    })
+}
+
+/// The first group, figures least significant byte first; what follows it has
+/// its default.
+fn base_group(bytes: &[u8]) -> Personalisation {
     let word = |at: usize| u16::from_le_bytes([bytes[at], bytes[at + 1]]);
     let figure =
         |at: usize| i32::from_le_bytes([bytes[at], bytes[at + 1], bytes[at + 2], bytes[at + 3]]);
@@ -165,26 +201,34 @@ fn personalisation(bytes: &[u8; PERSONALISATION_BYTES]) -> Personalisation {
         value: figure(18),
         limited_credit: switches & 0x01 != 0,
         free_get_value: switches & 0x02 != 0,
+        ..PROGRAM_CARD
     }
 }
 
-/// The figure of a hexadecimal digit of either case.
-fn digit(character: u8) -> Option<u8> {
-    match character {
-        b'0'..=b'9' => Some(character - b'0'),
-        b'A'..=b'F' => Some(character - b'A' + 10),
-        b'a'..=b'f' => Some(character - b'a' + 10),
-        _ => None,
+/// The second group: five keys, and a byte whose bits 0 to 4 are the files.
+fn key_group(mut with: Personalisation, bytes: &[u8]) -> Personalisation {
+    let (keys, modes) = bytes.split_at(16 * KEYS);
+    for (key, bytes) in with.keys.iter_mut().zip(keys.chunks_exact(16)) {
+        key.copy_from_slice(bytes);
     }
+    for (bit, mode) in with.modes.iter_mut().enumerate() {
+        if modes[0] >> bit & 1 == 1 {
+            *mode = Mode::Mac;
+        }
+    }
+    with
 }
 
-/// Appends capital hexadecimal digits.
-pub fn put_hex(bytes: &[u8], out: &mut Vec<u8>) {
-    const DIGITS: &[u8; 16] = b"0123456789ABCDEF";
-    for byte in bytes {
-        out.push(DIGITS[usize::from(byte >> 4)]);
-        out.push(DIGITS[usize::from(byte & 0xF)]);
+/// The bytes of an `N` line: random number and transaction identifier.
+fn inputs(bytes: &[u8]) -> Option<Inputs> {
+    if bytes.len() != 20 {
+        return None;
     }
+    let (random, transaction) = bytes.split_at(16);
+    Some(Inputs {
+        random: random.try_into().ok()?,
+        transaction: transaction.try_into().ok()?,
+    })
 }
 
 /// Appends `!` and the number of a bench refusal, or `!0`.
@@ -349,6 +393,74 @@ mod tests {
         check(
             "R0101\n906C0000010300\nR0102\n906C0000010300\nR0200\nR0201\n906C0000010300\nR0000\n00\nR102",
             "!0\n!5\n!0\n640000009100\n!0\n?\n640000009100\n!0\n!5\n?\n",
+        );
+    }
+
+    /// The exchange that request 06 names, with key 0 of zeros.
+    #[test]
+    fn published_exchange() {
+        check(
+            "NB9E2FC789B64BF237CCCAA20EC7E6E489D00C4DF\nB\n\
+             9071000002000000\nB\n\
+             90AF00002035C3E05A752E0144BAC0DE51C1F22C56B34408A23D8AEA266CAB947EA8E0118D00\nB\n",
+            "!0\n100 100 0 0 0 0 - -\n\
+             A04C124213C186F22399D33AC2A3021591AF\n100 100 0 0 0 0 - 0?\n\
+             3FA64DB5446D1F34CD6EA311167F5E4985B89690C04A05F17FA7AB2F081206639100\n\
+             100 100 0 0 0 0 - 0:0\n",
+        );
+    }
+
+    #[test]
+    fn inputs_are_zeros_at_the_start_and_outlast_a_personalisation() {
+        let personalise = "PEEEEEEEEEEEEEEEEEEEE00000000E80300006400000001";
+        // The zero block under the zero key, as in the first test case of GCM.
+        check(
+            &format!(
+                "9071000002000000\nNB9E2FC789B64BF237CCCAA20EC7E6E489D00C4DF\n\
+                 {personalise}\n9071000002000000\nB\nS\n{personalise}\nB"
+            ),
+            "66E94BD4EF8A2C3B884CFA59CA342B2E91AF\n!0\n!0\n\
+             A04C124213C186F22399D33AC2A3021591AF\n100 100 0 0 0 0 - 0?\n!0\n!0\n\
+             100 100 0 0 0 0 - -\n",
+        );
+        let digits = "0".repeat(40);
+        check(
+            &format!(
+                "N\nN{digits}\nN{digits}0\nN{digits}00\nN0{digits}\nn{digits}\nN{}G",
+                &digits[1..]
+            ),
+            "?\n!0\n?\n?\n?\n?\n?\n",
+        );
+        check(&format!("N{}", &digits[2..]), "?\n");
+    }
+
+    #[test]
+    fn keys_and_modes() {
+        let base = "PEEEEEEEEEEEEEEEEEEEE00000000E80300006400000001";
+        let keys: String = (0..5).map(|key| format!("{key:X}").repeat(32)).collect();
+        // Bits 0, 3 and 4: the files 00h, 03h and 01h. The others are not looked at.
+        check(
+            &format!(
+                "{base}{keys}F9\n90F50000010000\n90F50000010400\n90F50000011F00\n\
+                 90F50000010300\n90F50000010100\n9071000002020000\nB"
+            ),
+            "!0\n0001EEEE0001009100\n0000EEEE0001009100\n0000EEEE2000009100\n\
+             0201EEEE00000000E803000000000000019100\n0401EEEE1000000400000000009100\n\
+             35A611C675AB604AC328DC75152182C091AF\n100 100 0 0 0 0 - 2?\n",
+        );
+        // No line ends inside the second group.
+        for length in [base.len() - 1 + 2, 206, 207, 209, 210] {
+            let order = format!("{base}{keys}F90000");
+            check(
+                &format!("{}\nB", &order[..=length]),
+                "?\n100 100 0 0 0 0 - -\n",
+            );
+        }
+        // A refused order leaves zero keys and plain modes.
+        let refused = base.replacen("EEEE", "EEE5", 1);
+        check(
+            &format!("{refused}{keys}1F\n90F50000010000\n9071000002020000"),
+            "!1\n0000FFFF0001009100\n66E94BD4EF8A2C3B884CFA59CA342B2E91AF\n",
         );
     }
 

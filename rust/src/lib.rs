@@ -3,14 +3,28 @@
 //! scripts of such lines.
 //!
 //! * [`model`]: the card.
-//! * [`bench`]: one bench line in, one answer line out.
-//! * [`scripts`]: deterministic scripts of bench lines.
+//! * [`messaging`]: its sessions with MACs, and [`aes`] and [`cmac`] below them.
+//! * [`mod@bench`]: one bench line in, one answer line out.
+//! * [`scripts`]: deterministic scripts of bench lines for comparing programs,
+//!   and [`tally`], what they contain.
+//! * [`timing`]: such scripts for timing programs.
+//! * [`terminal`]: what a terminal sends, for both.
+//! * [`frames`], [`hex`], [`rng`]: what both are made with.
 //! * [`child`]: running another bench program on a script.
 
 #![forbid(unsafe_code)]
 #![warn(missing_docs)]
 
+pub mod aes;
 pub mod bench;
 pub mod child;
+pub mod cmac;
+pub mod frames;
+pub mod hex;
+pub mod messaging;
 pub mod model;
+pub mod rng;
 pub mod scripts;
+pub mod tally;
+pub mod terminal;
+pub mod timing;

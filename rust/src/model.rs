@@ -6,13 +6,15 @@
 //! ([`Card::command`]), a session change ([`Card::change_session`]) and a
 //! power-up ([`Card::power_up`]).
 
+use crate::aes::Block;
+use crate::messaging::{
+    first_reply, two_blocks, Capabilities, FirstPart, RealSession, TransactionId, MAC_SIZE,
+};
 use std::collections::VecDeque;
 use std::ops::Range;
 
 /// The shortest reply buffer a command accepts ("Events", bench refusal 5).
 pub const REPLY_ROOM: usize = 258;
-/// The status of an accepted command ("Frame and order of checks").
-pub const STATUS_OK: u16 = 0x9100;
 /// The shortest and longest frame ("Frame and order of checks", place 1).
 pub const FRAME_LENGTHS: std::ops::RangeInclusive<usize> = 5..=261;
 /// Bytes in one entry of the log ("The files").
@@ -21,6 +23,12 @@ pub const ENTRY_SIZE: usize = 16;
 pub const LOG_ENTRIES: usize = 4;
 /// The highest key number ("The files": 0 to 4 is a key).
 pub const LAST_KEY: u8 = 4;
+/// How many keys there are.
+pub const KEYS: usize = LAST_KEY as usize + 1;
+/// The most bytes that a ReadData in MAC mode may read (request 06).
+pub const LONGEST_MAC_READ: usize = 248;
+/// The rows of the order of checks: thirteen places, and 5a and 9a.
+pub const ROWS: usize = 15;
 
 /// One entry of the log.
 type Entry = [u8; ENTRY_SIZE];
@@ -56,7 +64,7 @@ impl BenchRefusal {
 }
 
 /// Why a command is refused, in the order of the table of "Frame and order of
-/// checks": one case for each of its thirteen places.
+/// checks" with the rows of request 06: one case for each of its fifteen rows.
 #[derive(Clone, Copy, Debug, PartialEq, Eq, PartialOrd, Ord)]
 pub enum Refusal {
     /// Place 1: fewer than 5 or more than 261 bytes.
@@ -67,31 +75,48 @@ pub enum Refusal {
     Parameters,
     /// Place 4: Lc is 00h or disagrees with the length; or Le not 00h.
     LengthBytes,
-    /// Place 5: INS not in the command table.
+    /// Place 5: INS not in the command table; a second part without a first.
     Instruction,
-    /// Place 6: data field of the wrong length.
+    /// Place 5a: a first part waits and this is not the second.
+    Interrupted,
+    /// Place 6: data field of the wrong length; fewer than eight bytes where a
+    /// MAC comes off.
     DataLength,
     /// Place 7: file number not in the file table.
     FileNumber,
     /// Place 8: file of another kind, or every granting condition is Fh.
     KindOrNever,
-    /// Place 9: no granting condition is free or equals the session key.
+    /// Place 9: no granting condition is free or equals the session key; a
+    /// second part that fails.
     NotGranted,
+    /// Place 9a: wrong MAC; a base command or GetFileSettings at counter FFFFh.
+    Integrity,
     /// Place 10: LimitedCredit while off; WriteRecord while a clear is pending.
     NotNow,
     /// Place 11: amount of 0 or negative; write of length 0; commit option not
-    /// 00h.
+    /// 00h; authentication with a key above 4 or a set LRP bit.
     BadParameter,
-    /// Place 12: outside a file, the log, a limit or the allowance.
+    /// Place 12: outside a file, the log, a limit or the allowance; a ReadData
+    /// in MAC mode of more than 248 bytes.
     Boundary,
     /// Place 13: commit or abort with nothing pending.
     NothingPending,
 }
 
 impl Refusal {
-    /// The place in the order of checks, 1 to 13.
-    pub fn place(self) -> usize {
-        self as usize + 1
+    /// The place of each row in the order of checks.
+    pub const PLACES: [&'static str; ROWS] = [
+        "1", "2", "3", "4", "5", "5a", "6", "7", "8", "9", "9a", "10", "11", "12", "13",
+    ];
+
+    /// The row in the order of checks, from 0 on.
+    pub fn row(self) -> usize {
+        self as usize
+    }
+
+    /// The place in the order of checks.
+    pub fn place(self) -> &'static str {
+        Self::PLACES[self.row()]
     }
 
     /// The status word of the reply.
@@ -101,10 +126,12 @@ impl Refusal {
             Self::Class => 0x6E00,
             Self::Parameters => 0x6A86,
             Self::Instruction => 0x911C,
+            Self::Interrupted => 0x91CA,
             Self::DataLength => 0x917E,
             Self::FileNumber => 0x91F0,
             Self::KindOrNever | Self::NotNow => 0x919D,
             Self::NotGranted => 0x91AE,
+            Self::Integrity => 0x911E,
             Self::BadParameter => 0x919E,
             Self::Boundary => 0x91BE,
             Self::NothingPending => 0x910C,
@@ -140,15 +167,6 @@ impl Condition {
             Self::Key(key) => key,
             Self::Free => 0xE,
             Self::Never => 0xF,
-        }
-    }
-
-    /// Whether the condition is free or equals the session key (place 9).
-    fn admits(self, session: Option<u8>) -> bool {
-        match self {
-            Self::Key(key) => session == Some(key),
-            Self::Free => true,
-            Self::Never => false,
         }
     }
 }
@@ -198,16 +216,53 @@ impl Rights {
     }
 }
 
-/// Places 8 (second half) and 9: `granted_by` are the conditions that could
-/// grant the command.
-fn check_access(granted_by: &[Condition], session: Option<u8>) -> Result<(), Refusal> {
-    if granted_by.iter().all(|&c| c == Condition::Never) {
-        Err(Refusal::KindOrNever)
-    } else if granted_by.iter().any(|c| c.admits(session)) {
-        Ok(())
-    } else {
-        Err(Refusal::NotGranted)
+/// What the rights say to a command (request 03); of several conditions the
+/// last of these counts.
+#[derive(Clone, Copy, Debug, PartialEq, Eq, PartialOrd, Ord)]
+pub enum Access {
+    /// Every condition that could grant it is Fh.
+    Never,
+    /// No condition is free or equals the session's key.
+    NotGranted,
+    /// Only a free condition grants it.
+    FreeOnly,
+    /// The session's key grants it.
+    ByKey,
+}
+
+/// How commands on a file travel under a session of AuthenticateEV2First
+/// (request 06).
+#[derive(Clone, Copy, Debug, PartialEq, Eq)]
+pub enum Mode {
+    /// As they are.
+    Plain,
+    /// With a MAC.
+    Mac,
+}
+
+impl Mode {
+    /// The option byte of GetFileSettings (request 06).
+    fn option_byte(self) -> u8 {
+        match self {
+            Self::Plain => 0x00,
+            Self::Mac => 0x01,
+        }
     }
+}
+
+/// What personalisation fixes for a file of any kind.
+#[derive(Clone, Copy, Debug, PartialEq, Eq)]
+struct Guard {
+    rights: Rights,
+    mode: Mode,
+}
+
+impl Guard {
+    /// That of the blank card's files.
+    const BLANK: Self = Self {
+        rights: Rights::NEVER,
+        mode: Mode::Plain,
+    };
 }
 
 /// What personalisation gives ("The files").
@@ -225,9 +280,16 @@ pub struct Personalisation {
     pub limited_credit: bool,
     /// Whether GetValue is free.
     pub free_get_value: bool,
+    /// The keys 0 to 4 (request 06).
+    pub keys: [Block; KEYS],
+    /// The modes of the files, in the order of their rights (request 06).
+    pub modes: [Mode; 5],
 }
 
-/// The card of the section "Transcript program".
+/// The keys of the program's card and of the blank one.
+const ZERO_KEYS: [Block; KEYS] = [[0; 16]; KEYS];
+
+/// The card of the section "Transcript program", with zero keys and plain modes.
 pub const PROGRAM_CARD: Personalisation = Personalisation {
     rights: [0xEEEE; 5],
     lower: 0,
@@ -235,7 +297,18 @@ pub const PROGRAM_CARD: Personalisation = Personalisation {
     value: 100,
     limited_credit: true,
     free_get_value: false,
+    keys: ZERO_KEYS,
+    modes: [Mode::Plain; 5],
 };
+
+/// What the bench hands in with an event (request 06).
+#[derive(Clone, Copy, Debug, Default, PartialEq, Eq)]
+pub struct Inputs {
+    /// The card's random number, which a first part takes.
+    pub random: Block,
+    /// The transaction identifier, which a first part takes too.
+    pub transaction: TransactionId,
+}
 
 /// A file as the file table names it ("The files").
 #[derive(Clone, Copy, Debug, PartialEq, Eq)]
@@ -265,14 +338,14 @@ impl FileName {
 /// A standard data file.
 #[derive(Clone, Debug, PartialEq, Eq)]
 struct DataFile {
-    rights: Rights,
+    guard: Guard,
     bytes: Vec<u8>,
 }
 
 /// The value file with its committed figures.
 #[derive(Clone, Debug, PartialEq, Eq)]
 struct ValueFile {
-    rights: Rights,
+    guard: Guard,
     lower: i32,
     upper: i32,
     limited_credit: bool,
@@ -285,7 +358,7 @@ struct ValueFile {
 /// The log with its committed entries, the newest in front.
 #[derive(Clone, Debug, PartialEq, Eq)]
 struct LogFile {
-    rights: Rights,
+    guard: Guard,
     entries: VecDeque<Entry>,
 }
 
@@ -323,6 +396,30 @@ impl Pending {
     }
 }
 
+/// The session, or what stands in its place.
+#[derive(Clone, Copy, Debug, PartialEq, Eq)]
+pub enum Session {
+    /// No session.
+    None,
+    /// A session of the bench with this key, which stays plain.
+    Bench(u8),
+    /// A session opened by AuthenticateEV2First.
+    Real(RealSession),
+    /// No session, and a first part that waits for its second.
+    Waiting(FirstPart),
+}
+
+impl Session {
+    /// The key of the session.
+    pub fn key(&self) -> Option<u8> {
+        match self {
+            Self::None | Self::Waiting(_) => None,
+            Self::Bench(key) => Some(*key),
+            Self::Real(session) => Some(session.key_number),
+        }
+    }
+}
+
 /// The figures that the bench's `B` line shows.
 #[derive(Clone, Copy, Debug, PartialEq, Eq)]
 pub struct Books {
@@ -344,11 +441,126 @@ pub struct Books {
     pub entry_pending: bool,
     /// Whether a clear is pending.
     pub clear_pending: bool,
-    /// The session's key.
-    pub session: Option<u8>,
+    /// The session.
+    pub session: Session,
 }
 
-/// A command whose frame passed places 1 to 6.
+/// The status of an accepted command.
+#[derive(Clone, Copy, Debug, PartialEq, Eq)]
+pub enum Status {
+    /// 9100 ("Frame and order of checks").
+    Done,
+    /// 91AF, that of a first part (request 06).
+    More,
+}
+
+impl Status {
+    /// The status word of the reply.
+    pub fn word(self) -> u16 {
+        match self {
+            Self::Done => 0x9100,
+            Self::More => 0x91AF,
+        }
+    }
+}
+
+/// What an accepted command replies.
+#[derive(Clone, Copy, Debug, PartialEq, Eq)]
+pub struct Accepted {
+    /// The number of bytes before the status: data, and the MAC if there is one.
+    pub length: usize,
+    /// The status.
+    pub status: Status,
+}
+
+/// What an INS of the command table asks for.
+#[derive(Clone, Copy, Debug, PartialEq, Eq)]
+enum Asked {
+    /// AuthenticateEV2First, first part.
+    FirstPart,
+    /// AuthenticateEV2First, second part.
+    SecondPart,
+    /// Any other command.
+    Base(Instruction),
+}
+
+impl Asked {
+    /// Place 5, but for a second part without a first.
+    fn from_byte(byte: u8) -> Result<Self, Refusal> {
+        match byte {
+            0x71 => Ok(Self::FirstPart),
+            0xAF => Ok(Self::SecondPart),
+            _ => Instruction::from_byte(byte)
+                .map(Self::Base)
+                .ok_or(Refusal::Instruction),
+        }
+    }
+}
+
+/// The base commands and GetFileSettings, by their INS.
+#[derive(Clone, Copy, Debug, PartialEq, Eq)]
+enum Instruction {
+    ReadData = 0xAD,
+    WriteData = 0x8D,
+    GetValue = 0x6C,
+    Credit = 0x0C,
+    Debit = 0xDC,
+    LimitedCredit = 0x1C,
+    ReadRecords = 0xAB,
+    WriteRecord = 0x8B,
+    ClearRecordFile = 0xEB,
+    Commit = 0xC7,
+    Abort = 0xA7,
+    GetFileSettings = 0xF5,
+}
+
+impl Instruction {
+    /// The command of an INS.
+    fn from_byte(byte: u8) -> Option<Self> {
+        Some(match byte {
+            0xAD => Self::ReadData,
+            0x8D => Self::WriteData,
+            0x6C => Self::GetValue,
+            0x0C => Self::Credit,
+            0xDC => Self::Debit,
+            0x1C => Self::LimitedCredit,
+            0xAB => Self::ReadRecords,
+            0x8B => Self::WriteRecord,
+            0xEB => Self::ClearRecordFile,
+            0xC7 => Self::Commit,
+            0xA7 => Self::Abort,
+            0xF5 => Self::GetFileSettings,
+            _ => return None,
+        })
+    }
+
+    /// The conditions of a file that can grant the command ("Command table");
+    /// one that no one meets stands where there are fewer than three.
+    fn granted_by(self, rights: Rights) -> [Condition; 3] {
+        const NONE: Condition = Condition::Never;
+        match self {
+            Self::ReadData | Self::ReadRecords => [rights.read, NONE, rights.read_write],
+            Self::WriteData | Self::WriteRecord | Self::LimitedCredit => {
+                [NONE, rights.write, rights.read_write]
+            }
+            Self::GetValue | Self::Debit => [rights.read, rights.write, rights.read_write],
+            Self::Credit | Self::ClearRecordFile => [NONE, NONE, rights.read_write],
+            Self::Commit | Self::Abort | Self::GetFileSettings => [NONE; 3],
+        }
+    }
+}
+
+/// A base command or GetFileSettings as it was sent.
+#[derive(Clone, Copy, Debug)]
+struct Order<'a> {
+    instruction: Instruction,
+    /// The data field, less the MAC.
+    data: &'a [u8],
+    /// The MAC that came off, if the command is in MAC mode.
+    mac: Option<&'a [u8]>,
+}
+
+/// A base command or GetFileSettings that passed places 1 to 6.
 #[derive(Clone, Copy, Debug, PartialEq, Eq)]
 enum Command<'a> {
     ReadData {
@@ -432,11 +644,11 @@ fn parse_frame(frame: &[u8]) -> Result<(u8, &[u8]), Refusal> {
 }
 
 impl<'a> Command<'a> {
-    /// Places 1 to 6, and the reading of the parameters.
-    fn parse(frame: &'a [u8]) -> Result<Self, Refusal> {
-        let (instruction, data) = parse_frame(frame)?;
-        let command = match instruction {
-            0xAD => {
+    /// Place 6, and the reading of the parameters.
+    fn parse(order: &Order<'a>) -> Result<Self, Refusal> {
+        let data = order.data;
+        let command = match order.instruction {
+            Instruction::ReadData => {
                 let (file, offset, length) = file_and_two(data)?;
                 Self::ReadData {
                     file,
@@ -444,7 +656,7 @@ impl<'a> Command<'a> {
                     length,
                 }
             }
-            0x8D => {
+            Instruction::WriteData => {
                 let (file, offset, bytes) = file_and_write(data)?;
                 Self::WriteData {
                     file,
@@ -452,26 +664,26 @@ impl<'a> Command<'a> {
                     bytes,
                 }
             }
-            0x6C => Self::GetValue {
+            Instruction::GetValue => Self::GetValue {
                 file: file_alone(data)?,
             },
-            0x0C => {
+            Instruction::Credit => {
                 let (file, amount) = file_and_amount(data)?;
                 Self::Credit { file, amount }
             }
-            0xDC => {
+            Instruction::Debit => {
                 let (file, amount) = file_and_amount(data)?;
                 Self::Debit { file, amount }
             }
-            0x1C => {
+            Instruction::LimitedCredit => {
                 let (file, amount) = file_and_amount(data)?;
                 Self::LimitedCredit { file, amount }
             }
-            0xAB => {
+            Instruction::ReadRecords => {
                 let (file, entry, count) = file_and_two(data)?;
                 Self::ReadRecords { file, entry, count }
             }
-            0x8B => {
+            Instruction::WriteRecord => {
                 let (file, offset, bytes) = file_and_write(data)?;
                 Self::WriteRecord {
                     file,
@@ -479,20 +691,19 @@ impl<'a> Command<'a> {
                     bytes,
                 }
             }
-            0xEB => Self::ClearRecordFile {
+            Instruction::ClearRecordFile => Self::ClearRecordFile {
                 file: file_alone(data)?,
             },
-            0xC7 => match *data {
+            Instruction::Commit => match *data {
                 [] => Self::Commit { option: 0x00 },
                 [option] => Self::Commit { option },
                 _ => return Err(Refusal::DataLength),
             },
-            0xA7 if data.is_empty() => Self::Abort,
-            0xA7 => return Err(Refusal::DataLength),
-            0xF5 => Self::GetFileSettings {
+            Instruction::Abort if data.is_empty() => Self::Abort,
+            Instruction::Abort => return Err(Refusal::DataLength),
+            Instruction::GetFileSettings => Self::GetFileSettings {
                 file: file_alone(data)?,
             },
-            _ => return Err(Refusal::Instruction),
         };
         Ok(command)
     }
@@ -577,7 +788,8 @@ pub struct Card {
     data: [DataFile; 3],
     value: ValueFile,
     log: LogFile,
-    session: Option<u8>,
+    keys: [Block; KEYS],
+    session: Session,
     pending: Pending,
 }
 
@@ -589,11 +801,11 @@ impl Card {
     pub fn blank() -> Self {
         Self {
             data: Self::DATA_SIZES.map(|size| DataFile {
-                rights: Rights::NEVER,
+                guard: Guard::BLANK,
                 bytes: vec![0; size],
             }),
             value: ValueFile {
-                rights: Rights::NEVER,
+                guard: Guard::BLANK,
                 lower: 0,
                 upper: 0,
                 limited_credit: false,
@@ -602,10 +814,11 @@ impl Card {
                 allowance: 0,
             },
             log: LogFile {
-                rights: Rights::NEVER,
+                guard: Guard::BLANK,
                 entries: VecDeque::with_capacity(LOG_ENTRIES + 1),
             },
-            session: None,
+            keys: ZERO_KEYS,
+            session: Session::None,
             pending: Pending::default(),
         }
     }
@@ -615,15 +828,16 @@ impl Card {
     pub fn personalise(with: &Personalisation) -> Result<Self, BenchRefusal> {
         let mut card = Self::blank();
         let [file_00, file_04, file_1f] = &mut card.data;
-        let places = [
-            &mut file_00.rights,
-            &mut file_04.rights,
-            &mut file_1f.rights,
-            &mut card.value.rights,
-            &mut card.log.rights,
+        let guards = [
+            &mut file_00.guard,
+            &mut file_04.guard,
+            &mut file_1f.guard,
+            &mut card.value.guard,
+            &mut card.log.guard,
         ];
-        for (place, word) in places.into_iter().zip(with.rights) {
-            *place = Rights::from_word(word)?;
+        for ((guard, word), mode) in guards.into_iter().zip(with.rights).zip(with.modes) {
+            let rights = Rights::from_word(word)?;
+            *guard = Guard { rights, mode };
         }
         if with.lower > with.upper {
             return Err(BenchRefusal::LimitsCrossed);
@@ -636,6 +850,7 @@ impl Card {
         card.value.value = with.value;
         card.value.limited_credit = with.limited_credit;
         card.value.free_get_value = with.free_get_value;
+        card.keys = with.keys;
         Ok(card)
     }
 
@@ -644,103 +859,339 @@ impl Card {
         Self::personalise(&PROGRAM_CARD).expect("the program's card breaks no rule")
     }
 
-    /// A power-up: ends the session and drops pending work ("Events").
+    /// A power-up: ends the session, or what stands in its place, and drops
+    /// pending work ("Events").
     pub fn power_up(&mut self) {
-        self.session = None;
+        self.end();
+    }
+
+    /// What a refusal and a power-up do: the session is ended, a first part and
+    /// pending work are dropped.
+    fn end(&mut self) {
+        self.session = Session::None;
         self.pending = Pending::default();
     }
 
     /// A session change: a key 0 to 4, or none. It leaves pending work in place
-    /// ("Events").
+    /// ("Events") and drops a first part.
     pub fn change_session(&mut self, key: Option<u8>) -> Result<(), BenchRefusal> {
-        if matches!(key, Some(number) if number > LAST_KEY) {
-            return Err(BenchRefusal::KeyNumber);
-        }
-        self.session = key;
+        self.session = match key {
+            None => Session::None,
+            Some(key) if key <= LAST_KEY => Session::Bench(key),
+            Some(_) => return Err(BenchRefusal::KeyNumber),
+        };
         Ok(())
     }
 
     /// A command. The reply is put at the start of `reply`, whose rest is left
     /// as it was; the result is the reply's length.
-    pub fn command(&mut self, frame: &[u8], reply: &mut [u8]) -> Result<usize, BenchRefusal> {
+    pub fn command(
+        &mut self,
+        frame: &[u8],
+        inputs: &Inputs,
+        reply: &mut [u8],
+    ) -> Result<usize, BenchRefusal> {
         if reply.len() < REPLY_ROOM {
             return Err(BenchRefusal::ReplyRoom);
         }
-        let (length, status) = match self.answer(frame, reply) {
-            Ok(length) => (length, STATUS_OK),
+        let (length, status) = match self.answer(frame, inputs, reply) {
+            Ok(accepted) => (accepted.length, accepted.status.word()),
             Err(refusal) => (0, refusal.status()),
         };
         reply[length..length + 2].copy_from_slice(&status.to_be_bytes());
         Ok(length + 2)
     }
 
-    /// A command without its status: the number of data bytes put into `reply`,
-    /// or the refusal, whose effect ("Events": session ended, pending work
-    /// dropped) has then taken place.
-    pub fn answer(&mut self, frame: &[u8], reply: &mut [u8]) -> Result<usize, Refusal> {
-        let outcome = Command::parse(frame).and_then(|command| self.execute(command, reply));
+    /// A command without its status in the reply: what is put into `reply`, or
+    /// the refusal, whose effect ("Events") has then taken place.
+    pub fn answer(
+        &mut self,
+        frame: &[u8],
+        inputs: &Inputs,
+        reply: &mut [u8],
+    ) -> Result<Accepted, Refusal> {
+        let outcome = self.obey(frame, inputs, reply);
         if outcome.is_err() {
-            self.session = None;
-            self.pending = Pending::default();
+            self.end();
         }
         outcome
     }
 
+    /// All places, and the command's work. A refusal changes nothing here.
+    fn obey(
+        &mut self,
+        frame: &[u8],
+        inputs: &Inputs,
+        reply: &mut [u8],
+    ) -> Result<Accepted, Refusal> {
+        let (byte, data) = parse_frame(frame)?;
+        match (Asked::from_byte(byte)?, &self.session) {
+            (Asked::SecondPart, Session::Waiting(first)) => {
+                let first = *first;
+                self.second_part(&first, data, reply)
+            }
+            (Asked::SecondPart, _) => Err(Refusal::Instruction),
+            (_, Session::Waiting(_)) => Err(Refusal::Interrupted),
+            (Asked::FirstPart, _) => self.first_part(data, inputs, reply),
+            (Asked::Base(instruction), _) => self.base_command(instruction, data, reply),
+        }
+    }
+
+    /// AuthenticateEV2First, first part: key number, LenCap, and as many bytes
+    /// PCDcap2. Places 6 and 11 are asked. It ends the session and leaves
+    /// pending work.
+    fn first_part(
+        &mut self,
+        data: &[u8],
+        inputs: &Inputs,
+        reply: &mut [u8],
+    ) -> Result<Accepted, Refusal> {
+        let (key_number, sent) = match data {
+            [key, length, sent @ ..] if usize::from(*length) == sent.len() => (*key, sent),
+            _ => return Err(Refusal::DataLength),
+        };
+        let lrp = sent.first().map_or(false, |byte| byte & 0x02 != 0);
+        if key_number > LAST_KEY || lrp {
+            return Err(Refusal::BadParameter);
+        }
+        let mut capabilities = Capabilities::default();
+        for (place, &byte) in capabilities.iter_mut().zip(sent) {
+            *place = byte;
+        }
+        let secret = first_reply(&self.keys[usize::from(key_number)], &inputs.random);
+        reply[..secret.len()].copy_from_slice(&secret);
+        self.session = Session::Waiting(FirstPart {
+            key_number,
+            random: inputs.random,
+            transaction: inputs.transaction,
+            capabilities,
+        });
+        Ok(Accepted {
+            length: secret.len(),
+            status: Status::More,
+        })
+    }
+
+    /// AuthenticateEV2First, second part, which opens the session. Places 6 and
+    /// 9 are asked.
+    fn second_part(
+        &mut self,
+        first: &FirstPart,
+        data: &[u8],
+        reply: &mut [u8],
+    ) -> Result<Accepted, Refusal> {
+        let second = two_blocks(data).ok_or(Refusal::DataLength)?;
+        let key = &self.keys[usize::from(first.key_number)];
+        let terminal = first
+            .terminal_random(key, second)
+            .ok_or(Refusal::NotGranted)?;
+        let (session, blocks) = first.finished(key, &terminal);
+        let bytes = blocks.concat();
+        reply[..bytes.len()].copy_from_slice(&bytes);
+        self.session = Session::Real(session);
+        Ok(Accepted {
+            length: bytes.len(),
+            status: Status::Done,
+        })
+    }
+
+    /// A base command or GetFileSettings: places 6 to 13, and its work.
+    fn base_command(
+        &mut self,
+        instruction: Instruction,
+        data: &[u8],
+        reply: &mut [u8],
+    ) -> Result<Accepted, Refusal> {
+        let order = self.order(instruction, data)?;
+        let command = Command::parse(&order)?;
+        let length = self.execute(&order, command, reply)?;
+        Ok(Accepted {
+            length: self.count(&order, length, reply),
+            status: Status::Done,
+        })
+    }
+
+    /// Takes the MAC off a data field (request 06); place 6 if there are fewer
+    /// than eight bytes.
+    fn order<'a>(&self, instruction: Instruction, data: &'a [u8]) -> Result<Order<'a>, Refusal> {
+        if !self.in_mac_mode(instruction, data) {
+            return Ok(Order {
+                instruction,
+                data,
+                mac: None,
+            });
+        }
+        let end = data
+            .len()
+            .checked_sub(MAC_SIZE)
+            .ok_or(Refusal::DataLength)?;
+        let (data, mac) = data.split_at(end);
+        Ok(Order {
+            instruction,
+            data,
+            mac: Some(mac),
+        })
+    }
+
+    /// Whether a command with this data field, as sent, is in MAC mode (request
+    /// 06): under a session of AuthenticateEV2First, commit, abort and
+    /// GetFileSettings always are, the others when their first byte names a
+    /// file of that mode, unless a free condition alone grants them.
+    fn in_mac_mode(&self, instruction: Instruction, data: &[u8]) -> bool {
+        if !matches!(self.session, Session::Real(_)) {
+            return false;
+        }
+        match instruction {
+            Instruction::Commit | Instruction::Abort | Instruction::GetFileSettings => true,
+            _ => match data.first().map(|&number| FileName::from_number(number)) {
+                Some(Ok(file)) => {
+                    self.guard(file).mode == Mode::Mac
+                        && self.access(instruction, file) != Access::FreeOnly
+                }
+                _ => false,
+            },
+        }
+    }
+
+    /// The access decision for a command and a file of any kind (request 03).
+    /// Free GetValue counts as a free condition of that command, unless R, W and
+    /// RW are all Fh.
+    fn access(&self, instruction: Instruction, file: FileName) -> Access {
+        let session = self.session.key();
+        let by_condition = |condition| match condition {
+            Condition::Key(key) if session == Some(key) => Access::ByKey,
+            Condition::Key(_) => Access::NotGranted,
+            Condition::Free => Access::FreeOnly,
+            Condition::Never => Access::Never,
+        };
+        let [a, b, c] = instruction
+            .granted_by(self.guard(file).rights)
+            .map(by_condition);
+        let access = a.max(b).max(c);
+        let free = instruction == Instruction::GetValue && self.value.free_get_value;
+        match access {
+            Access::NotGranted if free => Access::FreeOnly,
+            _ => access,
+        }
+    }
+
+    /// Places 8 (second half), 9 and 9a.
+    fn check_granted(&self, order: &Order, file: FileName) -> Result<(), Refusal> {
+        match self.access(order.instruction, file) {
+            Access::Never => Err(Refusal::KindOrNever),
+            Access::NotGranted => Err(Refusal::NotGranted),
+            Access::FreeOnly | Access::ByKey => self.check_integrity(order),
+        }
+    }
+
+    /// Place 9a, which only a session of AuthenticateEV2First asks: the end of
+    /// the command counter, and the MAC of a command in MAC mode.
+    fn check_integrity(&self, order: &Order) -> Result<(), Refusal> {
+        let session = match &self.session {
+            Session::Real(session) => session,
+            _ => return Ok(()),
+        };
+        if session.counter == u16::MAX {
+            return Err(Refusal::Integrity);
+        }
+        match order.mac {
+            Some(mac) if session.command_mac(order.instruction as u8, order.data) != mac => {
+                Err(Refusal::Integrity)
+            }
+            _ => Ok(()),
+        }
+    }
+
+    /// Counts an accepted command and, in MAC mode, puts the MAC behind the
+    /// reply's data: the length of both. Only a session of AuthenticateEV2First
+    /// counts.
+    fn count(&mut self, order: &Order, length: usize, reply: &mut [u8]) -> usize {
+        let session = match &mut self.session {
+            Session::Real(session) => session,
+            _ => return length,
+        };
+        session.counter += 1;
+        if order.mac.is_none() {
+            return length;
+        }
+        let (data, rest) = reply.split_at_mut(length);
+        rest[..MAC_SIZE].copy_from_slice(&session.reply_mac(data));
+        length + MAC_SIZE
+    }
+
     /// Places 7 to 13, and the command's work: the number of data bytes put
     /// into `reply`. A refusal changes nothing here.
-    fn execute(&mut self, command: Command, reply: &mut [u8]) -> Result<usize, Refusal> {
+    fn execute(
+        &mut self,
+        order: &Order,
+        command: Command,
+        reply: &mut [u8],
+    ) -> Result<usize, Refusal> {
         match command {
             Command::ReadData {
                 file,
                 offset,
                 length,
-            } => self.read_data(file, offset, length, reply),
+            } => self.read_data(order, file, offset, length, reply),
             Command::WriteData {
                 file,
                 offset,
                 bytes,
-            } => self.write_data(file, offset, bytes).map(|()| 0),
-            Command::GetValue { file } => self.get_value(file, reply),
-            Command::Credit { file, amount } => self.credit(file, amount).map(|()| 0),
-            Command::Debit { file, amount } => self.debit(file, amount).map(|()| 0),
+            } => self.write_data(order, file, offset, bytes).map(|()| 0),
+            Command::GetValue { file } => self.get_value(order, file, reply),
+            Command::Credit { file, amount } => self.credit(order, file, amount).map(|()| 0),
+            Command::Debit { file, amount } => self.debit(order, file, amount).map(|()| 0),
             Command::LimitedCredit { file, amount } => {
-                self.limited_credit(file, amount).map(|()| 0)
+                self.limited_credit(order, file, amount).map(|()| 0)
             }
             Command::ReadRecords { file, entry, count } => {
-                self.read_records(file, entry, count, reply)
+                self.read_records(order, file, entry, count, reply)
             }
             Command::WriteRecord {
                 file,
                 offset,
                 bytes,
-            } => self.write_record(file, offset, bytes).map(|()| 0),
-            Command::ClearRecordFile { file } => self.clear_record_file(file).map(|()| 0),
-            Command::Commit { option } => self.commit(option).map(|()| 0),
-            Command::Abort => self.abort().map(|()| 0),
-            Command::GetFileSettings { file } => self.get_file_settings(file, reply),
+            } => self.write_record(order, file, offset, bytes).map(|()| 0),
+            Command::ClearRecordFile { file } => self.clear_record_file(order, file).map(|()| 0),
+            Command::Commit { option } => self.commit(order, option).map(|()| 0),
+            Command::Abort => self.abort(order).map(|()| 0),
+            Command::GetFileSettings { file } => self.get_file_settings(order, file, reply),
         }
     }
 
-    /// Places 7 and 8 for the commands of data files.
-    fn data_file(&self, number: u8) -> Result<usize, Refusal> {
+    /// What personalisation fixed for a file.
+    fn guard(&self, file: FileName) -> &Guard {
+        match file {
+            FileName::Data(index) => &self.data[index].guard,
+            FileName::Value => &self.value.guard,
+            FileName::Log => &self.log.guard,
+        }
+    }
+
+    /// Places 7 to 9a for the commands of data files: the file's place in
+    /// [`Card::data`].
+    fn data_file(&self, order: &Order, number: u8) -> Result<usize, Refusal> {
         match FileName::from_number(number)? {
-            FileName::Data(index) => Ok(index),
+            FileName::Data(index) => {
+                self.check_granted(order, FileName::Data(index))?;
+                Ok(index)
+            }
             _ => Err(Refusal::KindOrNever),
         }
     }
 
-    /// Places 7 and 8 for the commands of the value file: its rights.
-    fn value_file(&self, number: u8) -> Result<Rights, Refusal> {
+    /// Places 7 to 9a for the commands of the value file.
+    fn value_file(&self, order: &Order, number: u8) -> Result<(), Refusal> {
         match FileName::from_number(number)? {
-            FileName::Value => Ok(self.value.rights),
+            FileName::Value => self.check_granted(order, FileName::Value),
             _ => Err(Refusal::KindOrNever),
         }
     }
 
-    /// Places 7 and 8 for the commands of the log: its rights.
-    fn log_file(&self, number: u8) -> Result<Rights, Refusal> {
+    /// Places 7 to 9a for the commands of the log.
+    fn log_file(&self, order: &Order, number: u8) -> Result<(), Refusal> {
         match FileName::from_number(number)? {
-            FileName::Log => Ok(self.log.rights),
+            FileName::Log => self.check_granted(order, FileName::Log),
             _ => Err(Refusal::KindOrNever),
         }
     }
@@ -748,37 +1199,39 @@ impl Card {
     /// ReadData ("Command table", **Data**).
     fn read_data(
         &self,
+        order: &Order,
         number: u8,
         offset: usize,
         length: usize,
         reply: &mut [u8],
     ) -> Result<usize, Refusal> {
-        let file = &self.data[self.data_file(number)?];
-        check_access(&[file.rights.read, file.rights.read_write], self.session)?;
+        let file = &self.data[self.data_file(order, number)?];
         let bytes = &file.bytes[read_range(offset, length, file.bytes.len())?];
+        if order.mac.is_some() && bytes.len() > LONGEST_MAC_READ {
+            return Err(Refusal::Boundary);
+        }
         reply[..bytes.len()].copy_from_slice(bytes);
         Ok(bytes.len())
     }
 
     /// WriteData ("Command table", **Data**): acts at once, nothing pending.
-    fn write_data(&mut self, number: u8, offset: usize, bytes: &[u8]) -> Result<(), Refusal> {
-        let index = self.data_file(number)?;
+    fn write_data(
+        &mut self,
+        order: &Order,
+        number: u8,
+        offset: usize,
+        bytes: &[u8],
+    ) -> Result<(), Refusal> {
+        let index = self.data_file(order, number)?;
         let file = &mut self.data[index];
-        check_access(&[file.rights.write, file.rights.read_write], self.session)?;
         let range = write_range(offset, bytes.len(), file.bytes.len())?;
         file.bytes[range].copy_from_slice(bytes);
         Ok(())
     }
 
-    /// GetValue ("Command table", **Value**): shows the committed value. When
-    /// it is free, it is granted unless R, W and RW are all Fh.
-    fn get_value(&self, number: u8, reply: &mut [u8]) -> Result<usize, Refusal> {
-        let rights = self.value_file(number)?;
-        let granted_by = [rights.read, rights.write, rights.read_write];
-        match check_access(&granted_by, self.session) {
-            Err(Refusal::NotGranted) if self.value.free_get_value => Ok(()),
-            outcome => outcome,
-        }?;
+    /// GetValue ("Command table", **Value**): shows the committed value.
+    fn get_value(&self, order: &Order, number: u8, reply: &mut [u8]) -> Result<usize, Refusal> {
+        self.value_file(order, number)?;
         let bytes = self.value.value.to_le_bytes();
         reply[..bytes.len()].copy_from_slice(&bytes);
         Ok(bytes.len())
@@ -802,9 +1255,8 @@ impl Card {
     }
 
     /// Credit ("Command table", **Value**).
-    fn credit(&mut self, number: u8, amount: i32) -> Result<(), Refusal> {
-        let rights = self.value_file(number)?;
-        check_access(&[rights.read_write], self.session)?;
+    fn credit(&mut self, order: &Order, number: u8, amount: i32) -> Result<(), Refusal> {
+        self.value_file(order, number)?;
         check_amount(amount)?;
         let work = self.value_work();
         let value = self.within_limits(work.value.checked_add(amount))?;
@@ -813,12 +1265,8 @@ impl Card {
     }
 
     /// Debit ("Command table", **Value** and **Allowance**).
-    fn debit(&mut self, number: u8, amount: i32) -> Result<(), Refusal> {
-        let rights = self.value_file(number)?;
-        check_access(
-            &[rights.read, rights.write, rights.read_write],
-            self.session,
-        )?;
+    fn debit(&mut self, order: &Order, number: u8, amount: i32) -> Result<(), Refusal> {
+        self.value_file(order, number)?;
         check_amount(amount)?;
         let work = self.value_work();
         let value = self.within_limits(work.value.checked_sub(amount))?;
@@ -832,9 +1280,8 @@ impl Card {
     }
 
     /// LimitedCredit ("Command table", **Value** and **Allowance**).
-    fn limited_credit(&mut self, number: u8, amount: i32) -> Result<(), Refusal> {
-        let rights = self.value_file(number)?;
-        check_access(&[rights.write, rights.read_write], self.session)?;
+    fn limited_credit(&mut self, order: &Order, number: u8, amount: i32) -> Result<(), Refusal> {
+        self.value_file(order, number)?;
         if !self.value.limited_credit {
             return Err(Refusal::NotNow);
         }
@@ -855,13 +1302,13 @@ impl Card {
     /// ReadRecords ("Command table", **Log**): committed entries, oldest first.
     fn read_records(
         &self,
+        order: &Order,
         number: u8,
         entry: usize,
         count: usize,
         reply: &mut [u8],
     ) -> Result<usize, Refusal> {
-        let rights = self.log_file(number)?;
-        check_access(&[rights.read, rights.read_write], self.session)?;
+        self.log_file(order, number)?;
         let range = read_range(entry, count, self.log.entries.len())?;
         let length = range.len() * ENTRY_SIZE;
         let entries = self.log.entries.range(range).rev();
@@ -873,9 +1320,14 @@ impl Card {
 
     /// WriteRecord ("Command table", **Log**): the first of a transaction makes
     /// a new entry of zeros, all of them write into it.
-    fn write_record(&mut self, number: u8, offset: usize, bytes: &[u8]) -> Result<(), Refusal> {
-        let rights = self.log_file(number)?;
-        check_access(&[rights.write, rights.read_write], self.session)?;
+    fn write_record(
+        &mut self,
+        order: &Order,
+        number: u8,
+        offset: usize,
+        bytes: &[u8],
+    ) -> Result<(), Refusal> {
+        self.log_file(order, number)?;
         let mut entry = match self.pending.log {
             None => [0; ENTRY_SIZE],
             Some(LogWork::NewEntry(entry)) => entry,
@@ -888,15 +1340,15 @@ impl Card {
 
     /// ClearRecordFile ("Command table", **Log**): drops the new entry and
     /// empties the log at commit.
-    fn clear_record_file(&mut self, number: u8) -> Result<(), Refusal> {
-        let rights = self.log_file(number)?;
-        check_access(&[rights.read_write], self.session)?;
+    fn clear_record_file(&mut self, order: &Order, number: u8) -> Result<(), Refusal> {
+        self.log_file(order, number)?;
         self.pending.log = Some(LogWork::Clear);
         Ok(())
     }
 
     /// CommitTransaction ("Command table", **Ends**, **Allowance**, **Log**).
-    fn commit(&mut self, option: u8) -> Result<(), Refusal> {
+    fn commit(&mut self, order: &Order, option: u8) -> Result<(), Refusal> {
+        self.check_integrity(order)?;
         if option != 0x00 {
             return Err(Refusal::BadParameter);
         }
@@ -923,7 +1375,8 @@ impl Card {
     }
 
     /// AbortTransaction ("Command table", **Ends**): keeps the session.
-    fn abort(&mut self) -> Result<(), Refusal> {
+    fn abort(&mut self, order: &Order) -> Result<(), Refusal> {
+        self.check_integrity(order)?;
         if self.pending.is_empty() {
             return Err(Refusal::NothingPending);
         }
@@ -931,23 +1384,31 @@ impl Card {
         Ok(())
     }
 
-    /// GetFileSettings (request 02): no access condition, so places 8 to 13 are
-    /// skipped. File kind, option byte 00h and rights, then what the kind has.
-    fn get_file_settings(&self, number: u8, reply: &mut [u8]) -> Result<usize, Refusal> {
+    /// GetFileSettings (request 02): no access condition, so of places 8 to 13
+    /// only 9a is asked. File kind, option byte with the mode, rights, then what
+    /// the kind has.
+    fn get_file_settings(
+        &self,
+        order: &Order,
+        number: u8,
+        reply: &mut [u8],
+    ) -> Result<usize, Refusal> {
+        let name = FileName::from_number(number)?;
+        self.check_integrity(order)?;
         let mut settings = Vec::new();
-        let mut head = |kind: u8, rights: Rights| {
-            settings.extend_from_slice(&[kind, 0x00]);
-            settings.extend_from_slice(&rights.word().to_le_bytes());
+        let mut head = |kind: u8, guard: Guard| {
+            settings.extend_from_slice(&[kind, guard.mode.option_byte()]);
+            settings.extend_from_slice(&guard.rights.word().to_le_bytes());
         };
-        match FileName::from_number(number)? {
+        match name {
             FileName::Data(index) => {
                 let file = &self.data[index];
-                head(0x00, file.rights);
+                head(0x00, file.guard);
                 settings.extend_from_slice(&bytes3(file.bytes.len()));
             }
             FileName::Value => {
                 let file = &self.value;
-                head(0x02, file.rights);
+                head(0x02, file.guard);
                 for figure in [file.lower, file.upper, file.allowance] {
                     settings.extend_from_slice(&figure.to_le_bytes());
                 }
@@ -955,7 +1416,7 @@ impl Card {
                 settings.push(switches[0] | switches[1] << 1);
             }
             FileName::Log => {
-                head(0x04, self.log.rights);
+                head(0x04, self.log.guard);
                 for figure in [ENTRY_SIZE, LOG_ENTRIES, self.log.entries.len()] {
                     settings.extend_from_slice(&bytes3(figure));
                 }
@@ -989,472 +1450,43 @@ impl Card {
 
     /// The rights of the files 00h, 04h, 1Fh, 03h and 01h, in this order.
     pub fn rights(&self) -> [Rights; 5] {
+        self.guards().map(|guard| guard.rights)
+    }
+
+    /// The modes of the files, in the same order.
+    pub fn modes(&self) -> [Mode; 5] {
+        self.guards().map(|guard| guard.mode)
+    }
+
+    fn guards(&self) -> [Guard; 5] {
         let [file_00, file_04, file_1f] = &self.data;
         [
-            file_00.rights,
-            file_04.rights,
-            file_1f.rights,
-            self.value.rights,
-            self.log.rights,
+            file_00.guard,
+            file_04.guard,
+            file_1f.guard,
+            self.value.guard,
+            self.log.guard,
         ]
+    }
+
+    /// The session.
+    pub fn session(&self) -> &Session {
+        &self.session
+    }
+
+    /// The key of a number from 0 to 4.
+    pub fn key(&self, number: u8) -> &Block {
+        &self.keys[usize::from(number)]
+    }
+
+    /// Whether a command of this INS with this data field, its MAC included, is
+    /// in MAC mode: whether a MAC comes off.
+    pub fn takes_mac(&self, byte: u8, data: &[u8]) -> bool {
+        Instruction::from_byte(byte).map_or(false, |known| self.in_mac_mode(known, data))
     }
 }
 
 #[cfg(test)]
-mod tests {
-    use super::*;
-
-    /// The reply of the card to a frame in hexadecimal digits.
-    fn reply(card: &mut Card, frame: &[u8]) -> Vec<u8> {
-        let mut room = [0xA5; REPLY_ROOM + 10];
-        let length = card.command(frame, &mut room).expect("room enough");
-        assert!(room[length..].iter().all(|&byte| byte == 0xA5));
-        room[..length].to_vec()
-    }
-
-    /// A frame of an INS byte and a data field.
-    fn frame(instruction: u8, data: &[u8]) -> Vec<u8> {
-        let mut frame = vec![0x90, instruction, 0x00, 0x00];
-        if !data.is_empty() {
-            frame.push(data.len() as u8);
-            frame.extend_from_slice(data);
-        }
-        frame.push(0x00);
-        frame
-    }
-
-    fn with_amount(instruction: u8, amount: u32) -> Vec<u8> {
-        let mut data = vec![0x03];
-        data.extend_from_slice(&amount.to_le_bytes());
-        frame(instruction, &data)
-    }
-
-    fn with_two(instruction: u8, file: u8, first: u32, second: u32) -> Vec<u8> {
-        let mut data = vec![file];
-        data.extend_from_slice(&first.to_le_bytes()[..3]);
-        data.extend_from_slice(&second.to_le_bytes()[..3]);
-        frame(instruction, &data)
-    }
-
-    fn with_write(instruction: u8, file: u8, offset: u32, bytes: &[u8]) -> Vec<u8> {
-        let mut data = vec![file];
-        data.extend_from_slice(&offset.to_le_bytes()[..3]);
-        data.extend_from_slice(&(bytes.len() as u32).to_le_bytes()[..3]);
-        data.extend_from_slice(bytes);
-        frame(instruction, &data)
-    }
-
-    fn credit(amount: u32) -> Vec<u8> {
-        with_amount(0x0C, amount)
-    }
-
-    fn debit(amount: u32) -> Vec<u8> {
-        with_amount(0xDC, amount)
-    }
-
-    fn limited_credit(amount: u32) -> Vec<u8> {
-        with_amount(0x1C, amount)
-    }
-
-    fn commit() -> Vec<u8> {
-        frame(0xC7, &[])
-    }
-
-    fn abort() -> Vec<u8> {
-        frame(0xA7, &[])
-    }
-
-    fn get_value(file: u8) -> Vec<u8> {
-        frame(0x6C, &[file])
-    }
-
-    const OK: [u8; 2] = [0x91, 0x00];
-    const BOUNDARY: [u8; 2] = [0x91, 0xBE];
-
-    #[test]
-    fn p1_empty_frame() {
-        let mut card = Card::program_card();
-        assert_eq!(reply(&mut card, &[]), [0x67, 0x00]);
-    }
-
-    #[test]
-    fn p2_class() {
-        let mut card = Card::program_card();
-        let frame = [0x80, 0x6C, 0x00, 0x00, 0x01, 0x03, 0x00];
-        assert_eq!(reply(&mut card, &frame), [0x6E, 0x00]);
-    }
-
-    #[test]
-    fn p3_parameters() {
-        let mut card = Card::program_card();
-        let frame = [0x90, 0x6C, 0x01, 0x00, 0x01, 0x03, 0x00];
-        assert_eq!(reply(&mut card, &frame), [0x6A, 0x86]);
-    }
-
-    #[test]
-    fn p4_le() {
-        let mut card = Card::program_card();
-        let frame = [0x90, 0x6C, 0x00, 0x00, 0x01, 0x03, 0x01];
-        assert_eq!(reply(&mut card, &frame), [0x67, 0x00]);
-    }
-
-    #[test]
-    fn p5_instruction() {
-        let mut card = Card::program_card();
-        let frame = [0x90, 0xFF, 0x00, 0x00, 0x00];
-        assert_eq!(reply(&mut card, &frame), [0x91, 0x1C]);
-    }
-
-    #[test]
-    fn p6_file_number_and_kind() {
-        let mut card = Card::program_card();
-        assert_eq!(reply(&mut card, &get_value(0x07)), [0x91, 0xF0]);
-        assert_eq!(reply(&mut card, &get_value(0x00)), [0x91, 0x9D]);
-    }
-
-    #[test]
-    fn p7_credit_to_the_limit() {
-        assert_eq!(reply(&mut Card::program_card(), &credit(900)), OK);
-        assert_eq!(reply(&mut Card::program_card(), &credit(901)), BOUNDARY);
-    }
-
-    #[test]
-    fn p8_negative_amount() {
-        let mut card = Card::program_card();
-        assert_eq!(reply(&mut card, &credit(0xFFFF_FFFF)), [0x91, 0x9E]);
-    }
-
-    #[test]
-    fn p9_read_at_the_end() {
-        let mut card = Card::program_card();
-        assert_eq!(
-            reply(&mut card, &with_two(0xAD, 0x00, 255, 1)),
-            [0x00, 0x91, 0x00]
-        );
-        assert_eq!(reply(&mut card, &with_two(0xAD, 0x00, 256, 0)), BOUNDARY);
-    }
-
-    #[test]
-    fn p10_credit_past_32_bits() {
-        let mut card = Card::personalise(&Personalisation {
-            upper: 2_147_483_647,
-            value: 2_147_483_647,
-            ..PROGRAM_CARD
-        })
-        .unwrap();
-        assert_eq!(reply(&mut card, &credit(1)), BOUNDARY);
-    }
-
-    #[test]
-    fn p11_commit_at_once() {
-        let mut card = Card::program_card();
-        assert_eq!(reply(&mut card, &commit()), [0x91, 0x0C]);
-    }
-
-    #[test]
-    fn p12_write_record_after_clear() {
-        let mut card = Card::program_card();
-        for byte in 1..=2 {
-            reply(&mut card, &with_write(0x8B, 0x01, 0, &[byte; 16]));
-            assert_eq!(reply(&mut card, &commit()), OK);
-        }
-        let log = card.log.clone();
-        assert_eq!(reply(&mut card, &frame(0xEB, &[0x01])), OK);
-        let write = with_write(0x8B, 0x01, 0, &[0x77]);
-        assert_eq!(reply(&mut card, &write), [0x91, 0x9D]);
-        assert_eq!(card.log, log);
-        assert!(card.pending.is_empty());
-    }
-
-    #[test]
-    fn run_as_tests_five_entries() {
-        let mut card = Card::program_card();
-        for byte in 1..=5 {
-            let write = with_write(0x8B, 0x01, 0, &[byte; 16]);
-            assert_eq!(reply(&mut card, &write), OK);
-            assert_eq!(reply(&mut card, &commit()), OK);
-        }
-        let filled = |bytes: &[u8]| {
-            let mut expected: Vec<u8> = bytes.iter().flat_map(|&byte| [byte; 16]).collect();
-            expected.extend_from_slice(&OK);
-            expected
-        };
-        assert_eq!(
-            reply(&mut card, &with_two(0xAB, 0x01, 0, 0)),
-            filled(&[2, 3, 4, 5])
-        );
-        assert_eq!(
-            reply(&mut card, &with_two(0xAB, 0x01, 1, 2)),
-            filled(&[3, 4])
-        );
-    }
-
-    #[test]
-    fn run_as_tests_two_writes_one_entry() {
-        let mut card = Card::program_card();
-        reply(&mut card, &with_write(0x8B, 0x01, 0, &[0xAA]));
-        reply(&mut card, &with_write(0x8B, 0x01, 15, &[0xBB]));
-        assert_eq!(reply(&mut card, &commit()), OK);
-        let mut expected = vec![0; 18];
-        expected[0] = 0xAA;
-        expected[15] = 0xBB;
-        expected[16..].copy_from_slice(&OK);
-        assert_eq!(reply(&mut card, &with_two(0xAB, 0x01, 0, 0)), expected);
-    }
-
-    #[test]
-    fn run_as_tests_allowance() {
-        let mut card = Card::program_card();
-        for frame in [debit(30), commit(), limited_credit(10), commit()] {
-            assert_eq!(reply(&mut card, &frame), OK);
-        }
-        assert_eq!(reply(&mut card.clone(), &limited_credit(21)), BOUNDARY);
-        assert_eq!(reply(&mut card, &limited_credit(20)), BOUNDARY);
-    }
-
-    #[test]
-    fn one_rebooking_uses_the_allowance_up() {
-        let mut card = Card::program_card();
-        for frame in [debit(30), commit(), limited_credit(1)] {
-            assert_eq!(reply(&mut card, &frame), OK);
-        }
-        assert_eq!(card.books().allowance, 30);
-        assert_eq!(card.books().pending_allowance, 0);
-        assert_eq!(reply(&mut card.clone(), &limited_credit(1)), BOUNDARY);
-        // An abort brings the allowance back.
-        let mut aborted = card.clone();
-        for frame in [abort(), limited_credit(30)] {
-            assert_eq!(reply(&mut aborted, &frame), OK);
-        }
-        // A Debit of the same transaction counts, before or after it.
-        let mut sold = card.clone();
-        for frame in [debit(5), commit()] {
-            assert_eq!(reply(&mut sold, &frame), OK);
-        }
-        assert_eq!(sold.books().allowance, 5);
-        assert_eq!(reply(&mut card, &commit()), OK);
-        assert_eq!(card.books().allowance, 0);
-    }
-
-    #[test]
-    fn careful_two_credits_are_tested_on_the_pending_value() {
-        let mut card = Card::program_card();
-        assert_eq!(reply(&mut card, &credit(500)), OK);
-        assert_eq!(reply(&mut card, &credit(500)), BOUNDARY);
-    }
-
-    #[test]
-    fn careful_data_is_not_rolled_back() {
-        let mut card = Card::program_card();
-        reply(&mut card, &credit(1));
-        reply(&mut card, &with_write(0x8D, 0x1F, 31, &[0x5A]));
-        assert_eq!(reply(&mut card, &abort()), OK);
-        assert_eq!(
-            reply(&mut card, &with_two(0xAD, 0x1F, 31, 0)),
-            [0x5A, 0x91, 0x00]
-        );
-    }
-
-    #[test]
-    fn careful_refused_read_ends_the_session_and_drops_work() {
-        let mut card = Card::program_card();
-        card.change_session(Some(3)).unwrap();
-        reply(&mut card, &credit(1));
-        assert_eq!(reply(&mut card, &with_two(0xAB, 0x01, 0, 0)), BOUNDARY);
-        assert_eq!(card, Card::program_card());
-    }
-
-    #[test]
-    fn careful_own_debit_does_not_raise_the_allowance() {
-        let mut card = Card::program_card();
-        assert_eq!(reply(&mut card, &debit(30)), OK);
-        assert_eq!(reply(&mut card, &limited_credit(1)), BOUNDARY);
-    }
-
-    #[test]
-    fn allowance_is_the_sum_of_debits_and_held() {
-        let mut card = Card::personalise(&Personalisation {
-            lower: i32::MIN,
-            upper: i32::MAX,
-            value: 0,
-            ..PROGRAM_CARD
-        })
-        .unwrap();
-        let most = i32::MAX as u32;
-        for frame in [debit(most), credit(most), debit(most), commit()] {
-            assert_eq!(reply(&mut card, &frame), OK);
-        }
-        assert_eq!(card.books().allowance, i32::MAX);
-        // The sum alone counts, whatever the allowance was.
-        for frame in [debit(1), commit()] {
-            assert_eq!(reply(&mut card, &frame), OK);
-        }
-        assert_eq!(card.books().allowance, 1);
-    }
-
-    #[test]
-    fn amounts_of_zero_are_refused() {
-        for zero in [credit(0), debit(0), limited_credit(0)] {
-            let mut card = Card::program_card();
-            card.change_session(Some(3)).unwrap();
-            assert_eq!(reply(&mut card, &debit(1)), OK);
-            assert_eq!(reply(&mut card, &zero), [0x91, 0x9E]);
-            assert_eq!(card, Card::program_card());
-        }
-    }
-
-    #[test]
-    fn the_switch_comes_before_an_amount_of_zero() {
-        let mut card = Card::personalise(&Personalisation {
-            limited_credit: false,
-            ..PROGRAM_CARD
-        })
-        .unwrap();
-        assert_eq!(reply(&mut card, &limited_credit(0)), [0x91, 0x9D]);
-    }
-
-    #[test]
-    fn personalisation_refusals_in_order() {
-        let all_wrong = Personalisation {
-            rights: [0xEEEE, 0xEEEE, 0xEEEE, 0xEEEE, 0xEEE5],
-            lower: 1,
-            upper: 0,
-            value: 5,
-            ..PROGRAM_CARD
-        };
-        assert_eq!(
-            Card::personalise(&all_wrong),
-            Err(BenchRefusal::RightsNibble)
-        );
-        let two_wrong = Personalisation {
-            rights: [0x0123, 0x4EEF, 0xFFFF, 0xEEEE, 0x0000],
-            ..all_wrong
-        };
-        assert_eq!(
-            Card::personalise(&two_wrong),
-            Err(BenchRefusal::LimitsCrossed)
-        );
-        let one_wrong = Personalisation {
-            upper: 4,
-            ..two_wrong
-        };
-        assert_eq!(
-            Card::personalise(&one_wrong),
-            Err(BenchRefusal::ValueOutside)
-        );
-    }
-
-    #[test]
-    fn other_bench_refusals() {
-        let mut card = Card::program_card();
-        assert_eq!(card.change_session(Some(5)), Err(BenchRefusal::KeyNumber));
-        let mut room = [0; REPLY_ROOM - 1];
-        assert_eq!(card.command(&[], &mut room), Err(BenchRefusal::ReplyRoom));
-        assert_eq!(card, Card::program_card());
-    }
-
-    #[test]
-    fn free_get_value() {
-        let personalise = |rights, free_get_value| {
-            Card::personalise(&Personalisation {
-                rights: [0xEEEE, 0xEEEE, 0xEEEE, rights, 0xEEEE],
-                free_get_value,
-                ..PROGRAM_CARD
-            })
-            .unwrap()
-        };
-        let granted = [100, 0, 0, 0, 0x91, 0x00];
-        let frame = get_value(0x03);
-        assert_eq!(reply(&mut personalise(0xFF1F, true), &frame), granted);
-        assert_eq!(reply(&mut personalise(0xFF1F, false), &frame), [0x91, 0xAE]);
-        assert_eq!(reply(&mut personalise(0xFFFE, true), &frame), [0x91, 0x9D]);
-    }
-
-    #[test]
-    fn settings_of_each_kind_need_no_right() {
-        let sealed = Personalisation {
-            rights: [0xFFFF; 5],
-            lower: -2,
-            free_get_value: true,
-            ..PROGRAM_CARD
-        };
-        let mut card = Card::personalise(&sealed).unwrap();
-        let mut settings = |file| reply(&mut card, &frame(0xF5, &[file]));
-        let data = [0x00, 0x00, 0xFF, 0xFF, 0x00, 0x01, 0x00, 0x91, 0x00];
-        assert_eq!(settings(0x00), data);
-        assert_eq!(settings(0x04), data);
-        assert_eq!(
-            settings(0x1F),
-            [0x00, 0x00, 0xFF, 0xFF, 0x20, 0x00, 0x00, 0x91, 0x00]
-        );
-        assert_eq!(
-            settings(0x03),
-            [
-                0x02, 0x00, 0xFF, 0xFF, 0xFE, 0xFF, 0xFF, 0xFF, 0xE8, 0x03, 0x00, 0x00, 0x00, 0x00,
-                0x00, 0x00, 0x03, 0x91, 0x00
-            ]
-        );
-        assert_eq!(
-            settings(0x01),
-            [
-                0x04, 0x00, 0xFF, 0xFF, 0x10, 0x00, 0x00, 0x04, 0x00, 0x00, 0x00, 0x00, 0x00, 0x91,
-                0x00
-            ]
-        );
-    }
-
-    #[test]
-    fn settings_show_committed_figures_and_leave_pending_work() {
-        let mut card = Card::program_card();
-        let settings = |card: &mut Card| {
-            let value = reply(card, &frame(0xF5, &[0x03]));
-            let log = reply(card, &frame(0xF5, &[0x01]));
-            (value[12..16].to_vec(), log[10..13].to_vec())
-        };
-        for frame in [debit(0x102), with_write(0x8B, 0x01, 0, &[0x77])] {
-            card.value.value = 0x102;
-            assert_eq!(reply(&mut card, &frame), OK);
-            assert_eq!(settings(&mut card), (vec![0; 4], vec![0; 3]));
-        }
-        assert_eq!(reply(&mut card, &commit()), OK);
-        let committed = (vec![0x02, 0x01, 0x00, 0x00], vec![0x01, 0x00, 0x00]);
-        assert_eq!(settings(&mut card), committed);
-        assert_eq!(reply(&mut card, &limited_credit(2)), OK);
-        assert_eq!(settings(&mut card), committed);
-    }
-
-    #[test]
-    fn settings_have_rights_least_significant_byte_first() {
-        let mut card = Card::personalise(&Personalisation {
-            rights: [0x0123, 0x4EEF, 0xFFFF, 0xEEEE, 0x0000],
-            ..PROGRAM_CARD
-        })
-        .unwrap();
-        assert_eq!(reply(&mut card, &frame(0xF5, &[0x00]))[2..4], [0x23, 0x01]);
-        assert_eq!(reply(&mut card, &frame(0xF5, &[0x04]))[2..4], [0xEF, 0x4E]);
-    }
-
-    #[test]
-    fn settings_are_refused_up_to_place_7() {
-        for (frame, status) in [
-            (vec![0x90, 0xF5, 0x00, 0x00, 0x01, 0x03, 0x01], [0x67, 0x00]),
-            (frame(0xF5, &[]), [0x91, 0x7E]),
-            (frame(0xF5, &[0x03, 0x00]), [0x91, 0x7E]),
-            (frame(0xF5, &[0x02]), [0x91, 0xF0]),
-        ] {
-            let mut card = Card::program_card();
-            card.change_session(Some(3)).unwrap();
-            assert_eq!(reply(&mut card, &debit(1)), OK);
-            assert_eq!(reply(&mut card, &frame), status);
-            assert_eq!(card, Card::program_card());
-        }
-    }
-
-    #[test]
-    fn places_and_statuses() {
-        assert_eq!(Refusal::FrameLength.place(), 1);
-        assert_eq!(Refusal::NotNow.place(), 10);
-        assert_eq!(Refusal::NothingPending.place(), 13);
-        assert_eq!(Refusal::NothingPending.status(), 0x910C);
-    }
-}
+mod session_tests;
+#[cfg(test)]
+mod tests;

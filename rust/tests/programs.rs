@@ -47,10 +47,35 @@ fn refbench_answers_before_it_reads_on() {
     assert!(child.wait().unwrap().success());
 }
 
+/// The exchange that request 06 names, and nothing else: key 0 of zeros.
+#[test]
+fn refbench_plays_the_published_exchange() {
+    let mut child = Command::new(REFBENCH)
+        .stdin(Stdio::piped())
+        .stdout(Stdio::piped())
+        .spawn()
+        .unwrap();
+    let script = "NB9E2FC789B64BF237CCCAA20EC7E6E489D00C4DF\n\
+                  9071000002000000\n\
+                  90AF00002035C3E05A752E0144BAC0DE51C1F22C56\
+                  B34408A23D8AEA266CAB947EA8E0118D00\n";
+    let mut to_child = child.stdin.take().unwrap();
+    to_child.write_all(script.as_bytes()).unwrap();
+    drop(to_child);
+    let output = child.wait_with_output().unwrap();
+    assert_eq!(
+        text(&output),
+        "!0\n\
+         A04C124213C186F22399D33AC2A3021591AF\n\
+         3FA64DB5446D1F34CD6EA311167F5E4985B89690C04A05F17FA7AB2F081206639100\n"
+    );
+}
+
 #[test]
 fn compare_finds_no_difference_in_refbench() {
     let output = Command::new(COMPARE)
-        .args(["--events", "30000", "--seed", "5", "--", REFBENCH])
+        .args(["--events", "30000", "--ends", "1", "--seed", "5"])
+        .args(["--", REFBENCH])
         .output()
         .unwrap();
     assert!(output.status.success(), "{}", text(&output));
@@ -73,9 +98,24 @@ fn compare_finds_and_shrinks_a_difference() {
 }
 
 #[test]
+fn compare_shrinks_a_session() {
+    let output = Command::new(COMPARE)
+        .args(["--events", "100000", "--ends", "0", "--stop", "--"])
+        .arg(faulty())
+        .arg("911E")
+        .output()
+        .unwrap();
+    let text = text(&output);
+    assert_eq!(output.status.code(), Some(1), "{text}");
+    let lines = text.matches("  line      ").count();
+    assert!((4..=8).contains(&lines), "{text}");
+    assert!(text.contains("both      911E\n"), "{text}");
+}
+
+#[test]
 fn compare_sees_missing_answers() {
     let output = Command::new(COMPARE)
-        .args(["--events", "1", "--"])
+        .args(["--events", "1", "--ends", "0", "--"])
         .arg(faulty())
         .arg("crash")
         .output()
@@ -95,7 +135,7 @@ fn compare_needs_a_program_that_starts() {
 }
 
 #[test]
-fn speed_times_four_kinds() {
+fn speed_times_every_kind() {
     let output = Command::new(SPEED)
         .args(["--lines", "500", "--runs", "1"])
         .args(["--ours", REFBENCH, "--plain", REFBENCH])
@@ -103,7 +143,7 @@ fn speed_times_four_kinds() {
         .unwrap();
     let text = text(&output);
     assert!(output.status.success(), "{text}");
-    assert_eq!(text.lines().count(), 5, "{text}");
+    assert_eq!(text.lines().count(), 7, "{text}");
 }
 
 #[test]

@@ -1,6 +1,6 @@
 -- Access rights: four nibbles from the top, Read, Write, ReadWrite, Change. 0 to 4 is a key, Eh is free, Fh is never.
 use Prim.Native.Nat.{ℕ, _/_, _%_}
-use mathlib.Core.Bool.{Bool, true, not, _&&_, _||_}
+use mathlib.Core.Bool.{Bool, true, false, not, _&&_, _||_}
 use lib.Dec.{eqb, leb}
 use Rattle.tables.specs.Choice.{pick}
 use Rattle.access.specs.declared.Session.{Session}
@@ -79,3 +79,10 @@ isNever a = eqb (accessStatus a) 0x919D
 
 abbrev pub isNotGranted : Access → Bool
 isNotGranted a = eqb (accessStatus a) 0x91AE
+
+-- granted only by a free condition
+abbrev pub isFreeOnly : Access → Bool
+isFreeOnly Never = false
+isFreeOnly NotGranted = false
+isFreeOnly FreeOnly = true
+isFreeOnly ByKey = false

@@ -1,17 +1,18 @@
 -- Where a command is accepted, what the functions answer is what the rules say.
-use Prim.Native.Nat.{ℕ, _≤_}
+use Prim.Native.Nat.{ℕ, _+_, _-_, _≤_}
 use mathlib.Core.Bool.{Bool, true, false, _||_}
-use mathlib.Core.List.{List, [], _∷_}
+use mathlib.Core.List.{List, [], _∷_, _++_}
 use mathlib.Core.Path.{_≡_, refl, sym, subst, _∙_}
 use borrow.Author.Tests.{eqb-true, not-false, ltb-false, le-leb, le-ltb}
 use lib.Dec.{eqb, ltb}
 use lib.IntN.{ℤ, pos, _+ℤ_}
-use lib.ListN.{length}
+use lib.ListN.{length, drop, length-take}
 use mir.Syntax.{w32}
 use mir.Val.{ofZ}
 use native.Mathlib.Omega.{arith}
-use Rattle.tables.specs.Choice.{pick, none, picked, passed, pick-alike, pick-cases, or-none, or-no}
-use Rattle.wire.specs.Bytes.{four, outsideOf}
+use Rattle.tables.specs.Choice.{pick, none, picked, passed, pick-both, pick-alike, pick-cases, or-none, or-no}
+use Rattle.wire.specs.Bytes.{four, outsideOf, word}
+use Rattle.datafiles.specs.declared.Files.{Files}
 use Rattle.datafiles.specs.Files as files
 use Rattle.datafiles.specs.Laws as datafiles
 use Rattle.limits.specs.declared.Limits.{Limits}
@@ -26,19 +27,31 @@ use Rattle.logbook.specs.Fit.{Fit}
 use Rattle.logbook.specs.FitLaws.{shown-room}
 use Rattle.records.specs.Shown as records
 use Rattle.frames.specs.Frame.{fileOf, offsetOf, lengthOf, amountOf}
-use Rattle.columns.specs.Table.{readData, getValue, credit, debit, limitedCredit, readRecords, getFileSettings, shows}
+use Rattle.columns.specs.Table.{readData, getValue, credit, debit, limitedCredit, readRecords, getFileSettings, authenticateFirst, authenticateSecond, shows}
+use Rattle.keys.specs.declared.Keys.{Keys}
+use Rattle.channel.specs.declared.Channel.{Channel}
+use Rattle.channel.specs.declared.Inputs.{Inputs}
+use Rattle.channel.specs.Channel.{counted}
 use Rattle.description.specs.Description.{described, describedIn}
 use Rattle.description.specs.Laws.{described-small}
 use Rattle.commands.specs.State.{Core, State}
-use Rattle.commands.specs.Rows.{outside, ok, commandStatus}
+use Rattle.commands.specs.Rows.{outside, longRead, ok}
 use Rattle.commands.specs.PlacesLaws.{entries-view}
-use Rattle.commands.specs.Laws.{inside, read-inside, entries-inside, credit-inside, debit-inside, rebook-inside}
+use Rattle.commands.specs.Laws.{read-inside, entries-inside, credit-inside, debit-inside, rebook-inside}
 use Rattle.standing.specs.Parts.{logBroken}
 use Rattle.effects.specs.Effects.{purseAfter, journalAfter, filesAfter}
 use Rattle.effects.specs.Guarded.{purseIn}
 use Rattle.replies.specs.Replies.{shownOf}
 use Rattle.replies.specs.Guarded.{valueIn, shownIn}
-use Rattle.card.specs.Events.{changed, shown}
+use Rattle.card.specs.Events.{channelAfter, changed, shown, macBehind, acceptedStatus, acceptedPlain}
+
+-- what an accepted command's data field d is known to be, where m says that a MAC came off it
+abbrev pub Granted : Core → Bool → ℕ → List ℕ → Type 0
+Granted c m i d = (outside (c .settings .limits) (c .purse) (length (c .journal .entries)) i d ≡ false) × (longRead m i d ≡ false)
+
+-- the data of a base command's reply
+abbrev pub baseShown : State → ℕ → List ℕ → List ℕ
+baseShown s i d = shownOf (s .core .settings) (s .files) (s .core .purse) (s .core .journal) i d
 
 -- ---- the value file
 
@@ -63,16 +76,13 @@ module _ (l : Limits) (p : Purse) (n : ℕ) (d : List ℕ) where
   at : (i k : ℕ) → outside l p n i d ≡ false → eqb i k ≡ true → outside l p n k d ≡ false
   at i k e t = subst (λ (j : ℕ). outside l p n j d ≡ false) (eqb-true i k t) e
 
-  purse-inside : (i : ℕ) → outside l p n i d ≡ false → purseIn l i d p ≡ purseAfter i d p
+  pub purse-inside : (i : ℕ) → outside l p n i d ≡ false → purseIn l i d p ≡ purseAfter i d p
   unfolding purseIn purseAfter
   purse-inside i e =
       pick-alike _ (λ t. credits (at i credit e t))
       (λ _. pick-alike _ (λ t. debits (at i debit e t))
       (λ _. pick-alike _ (λ t. rebooks (at i limitedCredit e t))
       (λ _. refl)))
-
-pub purse-accepted : (c : Core) (i : ℕ) (d : List ℕ) → commandStatus c i d ≡ ok → purseIn (c .settings .limits) i d (c .purse) ≡ purseAfter i d (c .purse)
-purse-accepted c i d e = purse-inside (c .settings .limits) (c .purse) (length (c .journal .entries)) d i (inside c i d e)
 
 -- ---- what is shown
 
@@ -100,39 +110,73 @@ module _ (room : ℕ) (s : State) (l : Log) (d : List ℕ) (j : s .core .journal
   unfolding describedIn
   settings-shown = rw (j, entries-view l) (passed _ _ (le-ltb room 17 (omega arith)))
 
-  pub shown-accepted : (i : ℕ) → commandStatus (s .core) i d ≡ ok → shownIn room (s .core .settings) (s .files) (s .core .purse) l i d ≡ shown s i d
+  pub shown-accepted : (i : ℕ) → outside (s .core .settings .limits) (s .core .purse) (length (s .core .journal .entries)) i d ≡ false
+      → shownIn room (s .core .settings) (s .files) (s .core .purse) l i d ≡ baseShown s i d
   unfolding shownIn shownOf
-  shown-accepted i e =
+  shown-accepted i o =
       let c = s .core in
-      let o = inside c i d e in
       pick-alike _ (λ t. data-shown (read-inside (c .settings .limits) (c .purse) _ d (at (c .settings .limits) (c .purse) _ d i readData o t)))
       (λ _. pick-alike _ (λ t. value-shown (c .purse .value))
       (λ _. pick-alike _ (λ t. entries-shown (entries-inside (c .settings .limits) (c .purse) _ d (at (c .settings .limits) (c .purse) _ d i readRecords o t)))
       (λ _. pick-alike _ (λ t. settings-shown)
       (λ _. refl))))
 
--- a reply's data is at most a whole file
-pub shown-small : (s : State) (i : ℕ) (d : List ℕ) → Fit (s .core .journal) → commandStatus (s .core) i d ≡ ok → length (shown s i d) ≤ 256
+-- ---- how much is shown
+
+-- a read in MAC mode leaves room for its MAC
+read-room : (m : Bool) (f : Files) (d : List ℕ) → outsideOf (files.sizeOf (fileOf d)) (offsetOf d) (lengthOf d) ≡ false → longRead m readData d ≡ false
+    → length (files.shown f (fileOf d) (offsetOf d) (lengthOf d)) + pick m 8 0 ≤ 256
+unfolding longRead pick files.shown
+read-room false f d o h = omega (arith, datafiles.shown-small f (fileOf d) (offsetOf d) (lengthOf d) o)
+read-room true f d o h =
+    let n = files.endOf (files.sizeOf (fileOf d)) (offsetOf d) (lengthOf d) in
+    let k = ltb-false 248 (n - offsetOf d) h in
+    omega (arith, length-take (n - offsetOf d) (drop (offsetOf d) (files.bytesOf f (fileOf d))))
+
+-- a reply's data and its MAC are at most 256 bytes
+pub shown-small : (m : Bool) (s : State) (i : ℕ) (d : List ℕ) → Fit (s .core .journal) → Granted (s .core) m i d → length (baseShown s i d) + pick m 8 0 ≤ 256
 unfolding shownOf
-shown-small s i d fit e =
+shown-small m s i d fit (o, h) =
     let c = s .core in
     let l = c .settings .limits in
-    let o = inside c i d e in
-    pick-cases (λ (x : List ℕ). length x ≤ 256) _ _ _ (λ t. datafiles.shown-small (s .files) _ _ _ (read-inside l (c .purse) _ d (at l (c .purse) _ d i readData o t)))
-    (λ _. pick-cases (λ (x : List ℕ). length x ≤ 256) _ _ _ (λ t. omega arith)
-    (λ _. pick-cases (λ (x : List ℕ). length x ≤ 256) _ _ _ (λ t. omega (arith, shown-room (c .journal) (offsetOf d) (lengthOf d) fit))
-    (λ _. pick-cases (λ (x : List ℕ). length x ≤ 256) _ _ _ (λ t. omega (arith, described-small (c .settings) (c .purse .allowance) (length (c .journal .entries)) (fileOf d)))
+    let small : pick m 8 0 ≤ 8 = pick-both (λ n. n ≤ 8) m 8 0 (omega arith) (omega arith) in
+    let Small : List ℕ → Type 0 = λ x. length x + pick m 8 0 ≤ 256 in
+    pick-cases Small _ _ _ (λ t. read-room m (s .files) d (read-inside l (c .purse) _ d (at l (c .purse) _ d i readData o t)) (subst (λ (j : ℕ). longRead m j d ≡ false) (eqb-true i readData t) h))
+    (λ _. pick-cases Small _ _ _ (λ t. omega arith)
+    (λ _. pick-cases Small _ _ _ (λ t. omega (arith, shown-room (c .journal) (offsetOf d) (lengthOf d) fit))
+    (λ _. pick-cases Small _ _ _ (λ t. omega (arith, described-small (c .settings) (c .purse .allowance) (length (c .journal .entries)) (fileOf d)))
     (λ _. omega arith))))
 
--- ---- what a command that shows changes, and what another shows: nothing
+-- ---- a base command: its channel, its reply, its status
+
+module _ (i : ℕ) (n₁ : eqb i authenticateFirst ≡ false) (n₂ : eqb i authenticateSecond ≡ false) where
+  pub base-channel : (ks : Keys) (u : Inputs) (d : List ℕ) (c : Channel) → channelAfter ks u i d c ≡ counted c
+  unfolding channelAfter
+  base-channel ks u d c = passed _ _ n₁ ∙ passed _ _ n₂
+
+  pub base-accepted : (m : Bool) (s : State) (u : Inputs) (d : List ℕ)
+      → record { state = changed s u i d; out = baseShown s i d ++ (macBehind m (counted (s .core .channel)) (baseShown s i d) ++ word ok) } ≡ acceptedPlain m s u i d
+  unfolding acceptedPlain shown acceptedStatus
+  base-accepted m s u d =
+      let x : shown s u i d ≡ baseShown s i d = passed _ _ n₁ ∙ passed _ _ n₂ in
+      let t : acceptedStatus i ≡ ok = passed _ _ n₁ in
+      let k : changed s u i d .core .channel ≡ counted (s .core .channel) = unfold changed in base-channel (s .core .keys) u d (s .core .channel) in
+      rw (x, t, k) refl
+
+-- ---- what a command that shows changes but for the counter, and what another shows: nothing
 
 module _ (s : State) (d : List ℕ) where
-  by-one : (i k : ℕ) → changed s k d ≡ s → eqb i k ≡ true → changed s i d ≡ s
-  by-one i k e t = subst (λ (j : ℕ). changed s j d ≡ s) (sym (eqb-true i k t)) e
+  abbrev Still : ℕ → Type 0
+  Still i = (purseAfter i d (s .core .purse) ≡ s .core .purse) × (journalAfter i d (s .core .journal) ≡ s .core .journal) × (filesAfter i d (s .files) ≡ s .files)
+      × (eqb i authenticateFirst ≡ false) × (eqb i authenticateSecond ≡ false)
 
-  pub shows-changes-nothing : (i : ℕ) → shows i ≡ true → changed s i d ≡ s
-  unfolding changed purseAfter journalAfter filesAfter pick
-  shows-changes-nothing i e = by (eqb i readData) (eqb i getValue) (eqb i readRecords) (eqb i getFileSettings) (by-one i readData refl) (by-one i getValue refl) (by-one i readRecords refl) (by-one i getFileSettings refl) e
+  by-one : (i k : ℕ) → Still k → eqb i k ≡ true → Still i
+  by-one i k e t = subst Still (sym (eqb-true i k t)) e
+
+  pub shows-changes-nothing : (i : ℕ) → shows i ≡ true → Still i
+  unfolding purseAfter journalAfter filesAfter pick
+  shows-changes-nothing i e =
+      by (eqb i readData) (eqb i getValue) (eqb i readRecords) (eqb i getFileSettings) (by-one i readData (refl, refl, refl, refl, refl)) (by-one i getValue (refl, refl, refl, refl, refl)) (by-one i readRecords (refl, refl, refl, refl, refl)) (by-one i getFileSettings (refl, refl, refl, refl, refl)) e
     where
       by : (a b c d : Bool) {P : Type 0} → (a ≡ true → P) → (b ≡ true → P) → (c ≡ true → P) → (d ≡ true → P) → (a || b || c || d) ≡ true → P
       by true b c d p q r s e = p refl
@@ -140,7 +184,7 @@ module _ (s : State) (d : List ℕ) where
       by false false true d p q r s e = r refl
       by false false false d p q r s e = s e
 
-  pub quiet-shows-nothing : (i : ℕ) → shows i ≡ false → shown s i d ≡ []
+  pub quiet-shows-nothing : (i : ℕ) → shows i ≡ false → baseShown s i d ≡ []
   unfolding shownOf
   quiet-shows-nothing i e =
       let n = none (eqb i readData ∷ eqb i getValue ∷ eqb i readRecords ∷ eqb i getFileSettings ∷ []) e in

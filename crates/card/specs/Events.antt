@@ -1,7 +1,7 @@
 -- The events: personalisation, a command, a session change, a power-up.
 use Prim.Native.Nat.{ℕ}
 use mathlib.Core.List.{List, [], _++_}
-use mathlib.Core.Bool.{not, false}
+use mathlib.Core.Bool.{Bool, not, false}
 use lib.Dec.{ltb, eqb}
 use lib.IntN.{ℤ, pos}
 use Rattle.tables.specs.Choice.{pick}
@@ -12,37 +12,61 @@ use Rattle.purse.specs.Purse as purse
 use Rattle.logbook.specs.Journal as journal
 use Rattle.logbook.specs.View as log
 use Rattle.access.specs.declared.Session.{Session}
-use Rattle.access.specs.declared.Session.the-variants.{Nobody}
 use Rattle.access.specs.Rights.{sessionSound}
+use Rattle.keys.specs.declared.Keys.{Keys}
+use Rattle.keys.specs.Keys as keys
+use Rattle.channel.specs.declared.Channel.{Channel}
+use Rattle.channel.specs.declared.Inputs.{Inputs}
+use Rattle.channel.specs.Channel.{stageOf, counterOf, counted, bare, closed}
+use Rattle.sealing.specs.Sealing.{sealOf}
+use Rattle.authentication.specs.Authentication.{begun, firstShown, opened, secondShown}
+use Rattle.columns.specs.Table.{authenticateFirst, authenticateSecond}
 use Rattle.frames.specs.Frame.{insOf, dataOf}
 use Rattle.settings.specs.declared.Settings.{Settings}
 use Rattle.settings.specs.Settings.{alike, rightsBroken}
 use Rattle.commands.specs.State.{State}
-use Rattle.commands.specs.Rows.{ok, statusOf}
+use Rattle.commands.specs.Modes.{plainOf}
+use Rattle.commands.specs.Rows.{ok, macedIn, statusOf}
 use Rattle.effects.specs.Effects.{purseAfter, journalAfter, filesAfter}
 use Rattle.replies.specs.Replies.{shownOf}
 use Rattle.card.specs.declared.Card.{Card}
 use Rattle.card.specs.View.{view, put, broken}
 use Rattle.card.specs.Outcome.{Outcome, bench}
 
--- ---- a command
+-- ---- a command: i is its INS, d its data field without a MAC, u what the bench hands in
 
--- an accepted command; the session stays
-unfoldable pub changed : State → ℕ → List ℕ → State
-changed s i d =
+-- the channel after it: a part of an authentication, or a base command
+unfoldable pub channelAfter : Keys → Inputs → ℕ → List ℕ → Channel → Channel
+channelAfter ks u i d c = pick (eqb i authenticateFirst) (begun u d) (pick (eqb i authenticateSecond) (opened ks c d) (counted c))
+
+-- an accepted command
+unfoldable pub changed : State → Inputs → ℕ → List ℕ → State
+changed s u i d =
     record {
       core = record {
         settings = s .core .settings;
+        keys = s .core .keys;
         purse = purseAfter i d (s .core .purse);
         journal = journalAfter i d (s .core .journal);
-        session = s .core .session;
+        channel = channelAfter (s .core .keys) u i d (s .core .channel);
       };
       files = filesAfter i d (s .files);
     }
 
 -- the data of its reply
-abbrev pub shown : State → ℕ → List ℕ → List ℕ
-shown s i d = shownOf (s .core .settings) (s .files) (s .core .purse) (s .core .journal) i d
+unfoldable pub shown : State → Inputs → ℕ → List ℕ → List ℕ
+shown s u i d =
+    pick (eqb i authenticateFirst) (firstShown (s .core .keys) u d)
+    (pick (eqb i authenticateSecond) (secondShown (s .core .keys) (s .core .channel) d)
+    (shownOf (s .core .settings) (s .files) (s .core .purse) (s .core .journal) i d))
+
+-- the MAC behind these data where m says that the command had one; c is the channel after it, its counter gone up
+unfoldable pub macBehind : Bool → Channel → List ℕ → List ℕ
+macBehind m c x = pick m (sealOf (c .secret) 0x00 (counterOf (c .stage)) (c .ti) x) []
+
+-- the status of its reply: 91AF asks for the second part
+unfoldable pub acceptedStatus : ℕ → ℕ
+acceptedStatus i = pick (eqb i authenticateFirst) 0x91AF ok
 
 -- a refusal, and a power-up: session ended, pending work dropped
 unfoldable pub ended : State → State
@@ -50,9 +74,10 @@ ended s =
     record {
       core = record {
         settings = s .core .settings;
+        keys = s .core .keys;
         purse = purse.dropped (s .core .purse);
         journal = journal.dropped (s .core .journal);
-        session = Nobody;
+        channel = closed;
       };
       files = s .files;
     }
@@ -66,17 +91,25 @@ pub record Played : Type 0 where
 unfoldable pub refused : State → ℕ → Played
 refused s status = record { state = ended s; out = word status }
 
--- an accepted reply is its data, then 9100
-unfoldable pub accepted : State → ℕ → List ℕ → Played
-accepted s i d = record { state = changed s i d; out = shown s i d ++ word ok }
+-- an accepted reply is its data, its MAC if the command had one, and its status
+unfoldable pub acceptedPlain : Bool → State → Inputs → ℕ → List ℕ → Played
+acceptedPlain m s u i d =
+    record {
+      state = changed s u i d;
+      out = shown s u i d ++ (macBehind m (changed s u i d .core .channel) (shown s u i d) ++ word (acceptedStatus i));
+    }
+
+-- x is the data field as sent
+unfoldable pub accepted : State → Inputs → ℕ → List ℕ → Played
+accepted s u i x = acceptedPlain (macedIn (s .core) i x) s u i (plainOf (macedIn (s .core) i x) x)
 
 -- by its status
-abbrev pub playedBy : ℕ → State → List ℕ → Played
-playedBy status s f = pick (eqb status ok) (accepted s (insOf f) (dataOf f)) (refused s status)
+abbrev pub playedBy : ℕ → State → Inputs → List ℕ → Played
+playedBy status s u f = pick (eqb status ok) (accepted s u (insOf f) (dataOf f)) (refused s status)
 
 -- refused with the status of the first reason that applies, accepted where none does
-unfoldable pub played : State → List ℕ → Played
-played s f = playedBy (statusOf (s .core) f) s f
+unfoldable pub played : State → Inputs → List ℕ → Played
+played s u f = playedBy (statusOf (s .core) f) s u f
 
 -- the card that the played state is laid into
 unfoldable pub laidInto : Card → Played → Outcome
@@ -90,16 +123,22 @@ replyRoom = 258
 abbrev pub benched : Card → ℕ → Played → Outcome
 benched c room p = pick (ltb room replyRoom) (bench c 5) (pick (broken c) (bench c 6) (laidInto c p))
 
--- the frame f with a reply buffer of room bytes
-unfoldable pub commanded : Card → List ℕ → ℕ → Outcome
-commanded c f room = benched c room (played (view c) f)
+-- the frame f, the bench's inputs u, and a reply buffer of room bytes
+unfoldable pub commanded : Card → List ℕ → Inputs → ℕ → Outcome
+commanded c f u room = benched c room (played (view c) u f)
 
--- ---- a session change leaves pending work in place
+-- ---- a session change leaves pending work in place, and nothing of the session before it
 
 unfoldable pub withSession : State → Session → State
 withSession s k =
     record {
-      core = record { settings = s .core .settings; purse = s .core .purse; journal = s .core .journal; session = k };
+      core = record {
+        settings = s .core .settings;
+        keys = s .core .keys;
+        purse = s .core .purse;
+        journal = s .core .journal;
+        channel = bare (stageOf k);
+      };
       files = s .files;
     }
 
@@ -117,17 +156,17 @@ poweredUp c = pick (broken c) (bench c 6) (laidInto c (record { state = ended (v
 -- ---- personalisation
 
 -- data files of zeros, the log empty, the allowance 0, no session, nothing pending
-unfoldable pub issued : Settings → ℤ → Card
-issued s v = record { settings = s; files = files.zeros; purse = purse.resting v 0; log = log.empty; session = Nobody }
+unfoldable pub issued : Settings → Keys → ℤ → Card
+issued s ks v = record { settings = s; keys = ks; files = files.zeros; purse = purse.resting v 0; log = log.empty; channel = closed }
 
 -- all rights FFFFh, every figure and byte zero, both switches off
 unfoldable pub blank : Card
-blank = issued (alike 0xFFFF (record { lower = pos 0; upper = pos 0 }) false) (pos 0)
+blank = issued (alike 0xFFFF (record { lower = pos 0; upper = pos 0 }) false) keys.zeros (pos 0)
 
 -- a rights nibble is 5 to Dh; lower limit above upper; starting value outside the limits; 0: none of these
 unfoldable pub orderRefusal : Settings → ℤ → ℕ
 orderRefusal s v = pick (rightsBroken s) 1 (pick (crossed (s .limits)) 2 (pick (not (within (s .limits) v)) 3 0))
 
 -- the new card, or the blank one beside the refusal's number
-unfoldable pub personalised : Settings → ℤ → Outcome
-personalised s v = bench (pick (eqb (orderRefusal s v) 0) (issued s v) blank) (orderRefusal s v)
+unfoldable pub personalised : Settings → Keys → ℤ → Outcome
+personalised s ks v = bench (pick (eqb (orderRefusal s v) 0) (issued s ks v) blank) (orderRefusal s v)

@@ -1,16 +1,16 @@
 -- Laws of the card's parts and events, as the code goes through them.
 use Prim.Native.Nat.{ℕ, _+_, _≤_, _<_}
-use mathlib.Core.Bool.{true, false, not}
+use mathlib.Core.Bool.{Bool, true, false, not}
 use mathlib.Core.List.{List, [], _++_}
 use mathlib.Core.Path.{_≡_, refl, sym, ap, _∙_}
 use borrow.Author.Tests.{lt-ltb, le-ltb, eq-eqb, ne-eqb}
 use lib.Dec.{eqb}
 use lib.IntN.{ℤ}
-use lib.ListN.{length, length-append}
+use lib.ListN.{length}
 use native.Mathlib.Omega.{arith}
 use Rattle.tables.specs.Choice.{pick, picked, passed}
-use Rattle.wire.specs.Bytes.{laid, laidIn, word, Shows}
-use Rattle.wire.specs.Laws.{laid-none, laid-behind, laid-room, length-word, length-laid}
+use Rattle.wire.specs.Bytes.{laidIn, word, Shows}
+use Rattle.wire.specs.Laws.{laid-none, laid-room, length-word, shows-none, shows-whole, shows-length, shows-then}
 use Rattle.logbook.specs.declared.Log.{Log}
 use Rattle.logbook.specs.View as log
 use Rattle.logbook.specs.Laws as logbook
@@ -19,31 +19,39 @@ use Rattle.purse.specs.declared.Purse.{Purse}
 use Rattle.datafiles.specs.declared.Files.{Files}
 use Rattle.access.specs.declared.Session.{Session}
 use Rattle.access.specs.Rights.{sessionSound}
-use Rattle.columns.specs.Table.{writeData, shows}
+use Rattle.keys.specs.declared.Keys.{Keys}
+use Rattle.channel.specs.declared.Channel.{Channel}
+use Rattle.channel.specs.declared.Inputs.{Inputs}
+use Rattle.channel.specs.Channel.{stageOf, counted, bare}
+use Rattle.authentication.specs.Authentication.{begun}
+use Rattle.authentication.specs.Guarded.{openedIn, opens-whole}
+use Rattle.columns.specs.Table.{writeData, authenticateFirst, authenticateSecond, shows}
 use Rattle.frames.specs.Frame.{insOf, dataOf}
 use Rattle.settings.specs.declared.Settings.{Settings}
 use Rattle.commands.specs.State.{State}
-use Rattle.commands.specs.Rows.{ok, statusOf, commandStatus}
-use Rattle.commands.specs.Laws.{command-ok}
+use Rattle.commands.specs.Modes.{plainOf}
+use Rattle.commands.specs.Rows.{wrongLength, outside, ok, macedIn, statusOf, commandStatus}
+use Rattle.commands.specs.Laws.{command-ok, inside, long-enough, first-plain, second-plain, second-length}
 use Rattle.effects.specs.Effects.{purseAfter, journalAfter, filesAfter}
 use Rattle.effects.specs.Guarded.{purseIn}
 use Rattle.replies.specs.Guarded.{shownIn}
 use Rattle.card.specs.declared.Card.{Card}
 use Rattle.card.specs.declared.Reply.{Reply}
-use Rattle.card.specs.View.{view, put, broken}
+use Rattle.card.specs.View.{view, put, broken, onChannel}
 use Rattle.standing.specs.Parts.{logBroken, log-few, parted}
 use Rattle.card.specs.Outcome.{Outcome, replyOf, Answered, bench}
-use Rattle.card.specs.Events.{changed, shown, ended, refused, accepted, played, laidInto, replyRoom, commanded, withSession, sessionChanged, poweredUp, issued, blank, orderRefusal, personalised}
-use Rattle.card.specs.Accepted.{purse-accepted, shown-accepted, shown-small, shows-changes-nothing, quiet-shows-nothing}
+use Rattle.card.specs.Events.{channelAfter, changed, shown, macBehind, acceptedStatus, ended, refused, acceptedPlain, accepted, played, laidInto, replyRoom, commanded, withSession, sessionChanged, poweredUp, issued, blank, orderRefusal, personalised}
+use Rattle.card.specs.Accepted.{Granted, baseShown, purse-inside, shown-accepted, shown-small, base-channel, base-accepted, shows-changes-nothing, quiet-shows-nothing}
+use Rattle.card.specs.Sealing.{Sealed, sealed-shows}
 
 -- a card is the state that it stands for, laid into it
 pub put-view : (c : Card) → put c (view c) ≡ c
 unfolding put view
-put-view c = ap (λ (l : Log). record { settings = c .settings; files = c .files; purse = c .purse; log = l; session = c .session }) (logbook.put-view (c .log))
+put-view c = ap (λ (l : Log). record { settings = c .settings; keys = c .keys; files = c .files; purse = c .purse; log = l; channel = c .channel }) (logbook.put-view (c .log))
 
 -- a card that breaks no rule has a log that breaks none
 pub log-unbroken : (c : Card) → broken c ≡ false → logBroken (c .log) ≡ false
-log-unbroken c e = parted (c .settings) (c .purse) (c .log) (c .session) e .1 .1 .1 .0
+log-unbroken c e = parted (c .settings) (c .purse) (c .log) (c .channel .stage) e .1 .1 .1 .0
 
 -- ---- replies
 
@@ -61,103 +69,153 @@ bench-answers c n b = (refl, laid-none b)
 pub answered-as : (o o′ : Outcome) (b b₂ : List ℕ) (r : Reply) → o ≡ o′ → Answered o b b₂ r → Answered o′ b b₂ r
 answered-as o o′ b b₂ r e a = (cc, cc)
 
--- what an accepted command lays at the front is its data
-pub accepted-shows : (c : Card) (i : ℕ) (d b b₁ : List ℕ) (n : ℕ) → commandStatus (view c .core) i d ≡ ok → broken c ≡ false → replyRoom ≤ length b
+-- the card k with the state s, and a buffer that shows x
+pub shows-answers : (c : Card) {k : Card} (s : State) (x b : List ℕ) {b₂ : List ℕ} {n : ℕ} → k ≡ put c s → Shows x b b₂ n
+    → Answered (laidInto c (record { state = s; out = x })) b b₂ (reply k 0 n)
+unfolding laidInto replyOf
+shows-answers c s x b ek (e, l) = ((λ i. reply (ek i) 0 (l i)), e)
+
+-- what an accepted command lays at the front is its data, with room for the MAC and the status
+pub accepted-shows : (c : Card) (m : Bool) (i : ℕ) (d b b₁ : List ℕ) (n : ℕ) → Granted (view c .core) m i d → broken c ≡ false → replyRoom ≤ length b
     → length (c .log .slots) ≡ 64 → length (c .log .entry) ≡ 16 → Shows (shownIn (length b) (c .settings) (c .files) (c .purse) (c .log) i d) b b₁ n
-    → Shows (shown (view c) i d) b b₁ n × (n ≤ 256)
+    → Shows (baseShown (view c) i d) b b₁ n × (n + pick m 8 0 ≤ 256)
 unfolding view
-accepted-shows c i d b b₁ n e r room ls le s =
+accepted-shows c m i d b b₁ n g r room ls le s =
     let u = log-unbroken c r in
-    let q = shown-accepted (length b) (view c) (c .log) d refl (omega arith) u i e in
-    let m = shown-small (view c) i d (fit-view (c .log) (log-few (c .log) u) ls le) e in
-    let t : n ≡ length (shown (view c) i d) = s .1 ∙ ap length q in
-    ((cc, t), omega arith)
+    let q = shown-accepted (length b) (view c) (c .log) d refl (omega arith) u i (g .0) in
+    let z = shown-small m (view c) i d (fit-view (c .log) (log-few (c .log) u) ls le) g in
+    let t : n ≡ length (baseShown (view c) i d) = s .1 ∙ ap length q in
+    ((cc, t), rw (sym t) at z)
 
--- an accepted command that shows: its data at the front, the status bytes w behind them, and the card as it was
-pub shown-answers : (c : Card) (i : ℕ) (d b b₁ b₂ w : List ℕ) (n : ℕ) → replyRoom ≤ length b → n ≤ 256 → shows i ≡ true → Shows (shown (view c) i d) b b₁ n
-    → w ≡ word ok → b₂ ≡ laidIn b₁ n w → Answered (laidInto c (accepted (view c) i d)) b b₂ (reply c 0 (n + 2))
-unfolding laidInto accepted replyOf
-shown-answers c i d b b₁ b₂ w n room small t s ew e =
-    let x = shown (view c) i d in
-    let lw = length-word ok in
-    let lx : n ≡ length x = s .1 in
-    let lb : length b₁ ≡ length b = ap length (s .0) ∙ length-laid b 0 x (omega arith) in
-    let q : laidIn b₁ n (word ok) ≡ laid b₁ n (word ok) = laid-room b₁ n (word ok) (omega arith) in
-    let z = laid-behind b x (word ok) in
-    let l : length (x ++ word ok) ≡ n + 2 = length-append x (word ok) ∙ (simp (length-word, ← lx)) in
-    let k : c ≡ put c (changed (view c) i d) = sym (ap (put c) (shows-changes-nothing (view c) d i t) ∙ put-view c) in
-    (cc, cc)
+-- ---- the card that an accepted command leaves
 
--- the card that an accepted command on the value file or the log leaves
-pub moved : (c : Card) (i : ℕ) (d : List ℕ) (p : Purse) (l : Log) → commandStatus (view c .core) i d ≡ ok → eqb i writeData ≡ false
+-- another channel alone
+pub on-channel : (c : Card) (s : State) (k : Channel) → s ≡ record { core = record { settings = c .settings; keys = c .keys; purse = c .purse; journal = log.view (c .log); channel = k }; files = c .files }
+    → onChannel c k ≡ put c s
+unfolding onChannel put
+on-channel c s k e = rw (e, logbook.put-view (c .log)) refl
+
+pub on-counted : (c : Card) (u : Inputs) (i : ℕ) (d : List ℕ) → shows i ≡ true → onChannel c (counted (c .channel)) ≡ put c (changed (view c) u i d)
+on-counted c u i d t =
+    let h = shows-changes-nothing (view c) d i t in
+    on-channel c _ _ (unfold changed view in rw (h .0, h .1, h .2, base-channel i (h .3) (h .4) (c .keys) u d (c .channel)) refl)
+
+pub on-begun : (c : Card) (u : Inputs) (d : List ℕ) → onChannel c (begun u d) ≡ put c (changed (view c) u authenticateFirst d)
+on-begun c u d = on-channel c _ _ (unfold changed view purseAfter journalAfter filesAfter channelAfter pick in refl)
+
+pub on-opened : (c : Card) (u : Inputs) (d : List ℕ) → length d ≡ 32 → onChannel c (openedIn (c .keys) (c .channel) d) ≡ put c (changed (view c) u authenticateSecond d)
+on-opened c u d e = on-channel c _ _ (unfold changed view purseAfter journalAfter filesAfter channelAfter pick in rw (opens-whole (c .keys) (c .channel) d e) refl)
+
+-- a command on the value file or the log
+pub moved : (c : Card) (u : Inputs) (i : ℕ) (d : List ℕ) (p : Purse) (l : Log) {k : Channel} → outside (view c .core .settings .limits) (view c .core .purse) (length (view c .core .journal .entries)) i d ≡ false
+    → eqb i authenticateFirst ≡ false → eqb i authenticateSecond ≡ false → eqb i writeData ≡ false
     → p ≡ purseIn (c .settings .limits) i d (c .purse) → l ≡ log.put (c .log) (journalAfter i d (log.view (c .log)))
-    → record { settings = c .settings; files = c .files; purse = p; log = l; session = c .session } ≡ put c (changed (view c) i d)
+    → k ≡ counted (c .channel) → record { settings = c .settings; keys = c .keys; files = c .files; purse = p; log = l; channel = k } ≡ put c (changed (view c) u i d)
 unfolding put view changed
-moved c i d p l e w ep el =
-    let q = ep ∙ purse-accepted (view c .core) i d e in
+moved c u i d p l o n₁ n₂ w ep el ek =
+    let q = ep ∙ purse-inside (c .settings .limits) (c .purse) _ d i o in
     let f : filesAfter i d (c .files) ≡ c .files = unfold filesAfter in passed _ _ w in
-    rw (q, el, f) refl
+    rw (q, el, f, ek, base-channel i n₁ n₂ (c .keys) u d (c .channel)) refl
 
--- the card that an accepted WriteData leaves
-pub wrote : (c : Card) (d : List ℕ) (f : Files) → f ≡ filesAfter writeData d (c .files)
-    → record { settings = c .settings; files = f; purse = c .purse; log = c .log; session = c .session } ≡ put c (changed (view c) writeData d)
-unfolding put view changed purseAfter journalAfter pick
-wrote c d f e = rw (e, logbook.put-view (c .log)) refl
+-- WriteData
+pub wrote : (c : Card) (u : Inputs) (i : ℕ) (d : List ℕ) (f : Files) {k : Channel} → i ≡ writeData → f ≡ filesAfter writeData d (c .files)
+    → k ≡ counted (c .channel) → record { settings = c .settings; keys = c .keys; files = f; purse = c .purse; log = c .log; channel = k } ≡ put c (changed (view c) u i d)
+unfolding put view changed purseAfter journalAfter channelAfter pick
+wrote c u i d f ei e ek = rw (ei, e, ek, logbook.put-view (c .log)) refl
+
+-- a part of an authentication: the n bytes x of its reply, and its status w behind them
+pub part-answers : (c : Card) {k : Card} (u : Inputs) (i : ℕ) (d x b : List ℕ) {b₁ b₂ : List ℕ} {r : ℕ} (n w : ℕ) → k ≡ put c (changed (view c) u i d)
+    → x ≡ shown (view c) u i d → w ≡ acceptedStatus i → length x ≡ n → n + 2 ≤ length b → b₁ ≡ laidIn b 0 x → b₂ ≡ laidIn b₁ n (word w) → r ≡ n + 2
+    → Answered (laidInto c (acceptedPlain false (view c) u i d)) b b₂ (reply k 0 r)
+part-answers c u i d x b {b₁} {r = r} n w ek ex ew lx room e₁ e₂ er =
+    let s = shows-whole x b b₁ n lx (omega arith) e₁ in
+    let lw = length-word w in
+    let lb = shows-length x b b₁ n s (omega arith) in
+    let v = shows-then x (word w) b s (e₂ ∙ laid-room b₁ n (word w) (omega arith)) in
+    let y : record { state = changed (view c) u i d; out = x ++ word w } ≡ acceptedPlain false (view c) u i d = unfold acceptedPlain macBehind pick in rw (ex, ew) refl in
+    let l : r ≡ length (x ++ word w) = er ∙ ap (λ (j : ℕ). n + j) (sym (length-word w)) ∙ v .1 in
+    answered-as _ _ _ _ _ (ap (laidInto c) y) (shows-answers c (changed (view c) u i d) (x ++ word w) b ek (v .0, l))
+
+-- a base command that shows something
+pub shown-answers : (c : Card) {k : Card} (m : Bool) (u : Inputs) (i : ℕ) (d b : List ℕ) {b₁ b₂ : List ℕ} {n r : ℕ} → shows i ≡ true
+    → k ≡ onChannel c (counted (c .channel)) → Shows (baseShown (view c) i d) b b₁ n → Sealed (counted (c .channel)) m n b₁ b₂ r
+    → Answered (laidInto c (acceptedPlain m (view c) u i d)) b b₂ (reply k 0 r)
+unfolding view
+shown-answers c m u i d b t ek s z =
+    let h = shows-changes-nothing (view c) d i t in
+    let v = sealed-shows (counted (c .channel)) m (baseShown (view c) i d) b s z in
+    answered-as _ _ _ _ _ (ap (laidInto c) (base-accepted i (h .3) (h .4) m (view c) u d)) (shows-answers c (changed (view c) u i d) _ b (ek ∙ on-counted c u i d t) v)
 
 -- ---- a command
 
-module _ (c : Card) (f : List ℕ) where
-  pub plays-refused : (s : ℕ) → s ≡ statusOf (view c .core) f → (s ≡ ok → ⊥) → laidInto c (refused (view c) s) ≡ laidInto c (played (view c) f)
+module _ (c : Card) (f : List ℕ) (u : Inputs) where
+  pub plays-refused : (s : ℕ) → s ≡ statusOf (view c .core) f → (s ≡ ok → ⊥) → laidInto c (refused (view c) s) ≡ laidInto c (played (view c) u f)
   unfolding played
   plays-refused s e n = ap (laidInto c) (rw e (sym (passed _ _ (ne-eqb _ _ (λ q. n (e ∙ q))))))
 
-  pub plays-accepted : statusOf (view c .core) f ≡ ok → laidInto c (accepted (view c) (insOf f) (dataOf f)) ≡ laidInto c (played (view c) f)
+  pub plays-accepted : statusOf (view c .core) f ≡ ok → laidInto c (accepted (view c) u (insOf f) (dataOf f)) ≡ laidInto c (played (view c) u f)
   unfolding played
   plays-accepted e = ap (laidInto c) (sym (picked _ _ (eq-eqb _ _ e)))
 
   module _ (room : ℕ) where
-    pub command-short : room < replyRoom → bench c 5 ≡ commanded c f room
+    pub command-short : room < replyRoom → bench c 5 ≡ commanded c f u room
     unfolding commanded
     command-short h = sym (picked _ _ (lt-ltb _ _ h))
 
-    pub command-broken : replyRoom ≤ room → broken c ≡ true → bench c 6 ≡ commanded c f room
+    pub command-broken : replyRoom ≤ room → broken c ≡ true → bench c 6 ≡ commanded c f u room
     unfolding commanded
     command-broken h b = sym (passed _ _ (le-ltb _ _ h) ∙ picked _ _ b)
 
-    pub command-plays : replyRoom ≤ room → broken c ≡ false → laidInto c (played (view c) f) ≡ commanded c f room
+    pub command-plays : replyRoom ≤ room → broken c ≡ false → laidInto c (played (view c) u f) ≡ commanded c f u room
     unfolding commanded
     command-plays h b = sym (passed _ _ (le-ltb _ _ h) ∙ passed _ _ b)
 
   -- with room for a reply, on a card that breaks no rule; k is the card after
-  module _ (b : List ℕ) (h : replyRoom ≤ length b) (u : broken c ≡ false) where
-    status-alone : {b₂ : List ℕ} {k : Card} (s : State) (status : ℕ) → k ≡ put c s → b₂ ≡ laidIn b 0 (word status)
-        → Answered (laidInto c (record { state = s; out = word status })) b b₂ (reply k 0 2)
-    unfolding laidInto replyOf
-    status-alone s status ek e =
-        let l = length-word status in
-        let q = laid-room b 0 (word status) (omega arith) in
-        (cc, cc)
-
-    pub command-refused : {b₂ : List ℕ} {k : Card} (s : ℕ) → s ≡ statusOf (view c .core) f → (s ≡ ok → ⊥) → k ≡ put c (ended (view c)) → b₂ ≡ laidIn b 0 (word s)
-        → Answered (commanded c f (length b)) b b₂ (reply k 0 2)
+  module _ (b : List ℕ) (h : replyRoom ≤ length b) (w : broken c ≡ false) where
+    pub command-refused : {b₂ : List ℕ} {k : Card} {n : ℕ} (s : ℕ) → s ≡ statusOf (view c .core) f → (s ≡ ok → ⊥) → k ≡ put c (ended (view c))
+        → b₂ ≡ laidIn b 0 (word s) → n ≡ 0 + 2 → Answered (commanded c f u (length b)) b b₂ (reply k 0 n)
     unfolding refused
-    command-refused s es n ek e = answered-as _ _ _ _ _ (plays-refused s es n ∙ command-plays _ h u) (status-alone (ended (view c)) s ek e)
+    command-refused s es n ek e q = answered-as _ _ _ _ _ (plays-refused s es n ∙ command-plays _ h w) (shows-answers c (ended (view c)) (word s) b ek (shows-whole (word s) b _ 2 (length-word s) (omega arith) e .0, q ∙ sym (length-word s)))
 
-    -- i and d are its command and data field, as the code has read them
-    module _ (s : statusOf (view c .core) f ≡ ok) {i : ℕ} {d : List ℕ} (ei : i ≡ insOf f) (ed : d ≡ dataOf f) where
-      pub command-taken : commandStatus (view c .core) i d ≡ ok
-      command-taken = rw (ei, ed) (command-ok (view c .core) f s)
+    -- m, i and d are whether it has a MAC, its command and its data field without it, as the code has read them
+    module _ (s : statusOf (view c .core) f ≡ ok) {m : Bool} {i : ℕ} {x d : List ℕ} (em : m ≡ macedIn (view c .core) (insOf f) (dataOf f)) (ei : i ≡ insOf f) (ex : x ≡ dataOf f) (ed : d ≡ plainOf m x) where
+      taken : commandStatus (view c .core) (insOf f) (dataOf f) ≡ ok
+      taken = command-ok (view c .core) f s
 
-      accepts : laidInto c (accepted (view c) i d) ≡ commanded c f (length b)
-      accepts = rw (ei, ed) (plays-accepted s ∙ command-plays _ h u)
+      pub command-granted : Granted (view c .core) m i d
+      command-granted = rw (ed, ex, ei, em) (inside (view c .core) (insOf f) (dataOf f) taken)
 
-      pub command-shows : {b₂ : List ℕ} {r : Reply} → Answered (laidInto c (accepted (view c) i d)) b b₂ r → Answered (commanded c f (length b)) b b₂ r
-      command-shows x = answered-as _ _ _ _ _ accepts x
+      pub command-accepts : {b₂ : List ℕ} {r : Reply} → Answered (laidInto c (acceptedPlain m (view c) u i d)) b b₂ r → Answered (commanded c f u (length b)) b b₂ r
+      unfolding accepted
+      command-accepts y =
+          let q : acceptedPlain m (view c) u i d ≡ accepted (view c) u (insOf f) (dataOf f) = rw (ed, ex, ei, em) refl in
+          answered-as _ _ _ _ _ (ap (laidInto c) q ∙ plays-accepted s ∙ command-plays _ h w) y
 
-      pub command-quiet : {b₂ : List ℕ} {k : Card} → shows i ≡ false → k ≡ put c (changed (view c) i d) → b₂ ≡ laidIn b 0 (word ok) → Answered (commanded c f (length b)) b b₂ (reply k 0 2)
-      command-quiet t ek e =
-          let q : record { state = changed (view c) i d; out = word ok } ≡ accepted (view c) i d = unfold accepted in rw (quiet-shows-nothing (view c) d i t) refl in
-          answered-as _ _ _ _ _ (ap (laidInto c) q ∙ accepts) (status-alone _ ok ek e)
+      -- a part of an authentication has no MAC, and a second one its 32 bytes
+      pub begins-plain : i ≡ authenticateFirst → m ≡ false
+      begins-plain q = em ∙ ap (λ (j : ℕ). macedIn (view c .core) j (dataOf f)) (sym ei ∙ q) ∙ first-plain (view c .core) (dataOf f)
+
+      pub opens-plain : i ≡ authenticateSecond → m ≡ false
+      opens-plain q = em ∙ ap (λ (j : ℕ). macedIn (view c .core) j (dataOf f)) (sym ei ∙ q) ∙ second-plain (view c .core) (dataOf f)
+
+      pub opens-long : i ≡ authenticateSecond → length d ≡ 32
+      opens-long q =
+          let l : wrongLength i d ≡ false = rw (ed, ex, ei, em) (long-enough (view c .core) (insOf f) (dataOf f) taken .0) in
+          second-length d (rw q at l)
+
+      pub command-part : {b₂ : List ℕ} {r : Reply} {j : ℕ} → i ≡ j → m ≡ false → Answered (laidInto c (acceptedPlain false (view c) u j d)) b b₂ r → Answered (commanded c f u (length b)) b b₂ r
+      command-part ej e y = command-accepts (rw (e, ej) y)
+
+      -- a base command that shows nothing; g is its channel after
+      pub command-quiet : {b₂ : List ℕ} {k : Card} {n : ℕ} {g : Channel} → eqb i authenticateFirst ≡ false → eqb i authenticateSecond ≡ false → shows i ≡ false
+          → k ≡ put c (changed (view c) u i d) → g ≡ counted (c .channel) → Sealed g m 0 b b₂ n → Answered (commanded c f u (length b)) b b₂ (reply k 0 n)
+      unfolding view
+      command-quiet n₁ n₂ t ek eg z₀ =
+          let z : Sealed (counted (c .channel)) m 0 b _ _ = rw eg at z₀ in
+          let y = quiet-shows-nothing (view c) d i t in
+          let q = base-accepted i n₁ n₂ m (view c) u d in
+          let v = sealed-shows (counted (c .channel)) m [] b (shows-none b) z in
+          command-accepts (answered-as _ _ _ _ _ (ap (laidInto c) q) (shows-answers c _ _ b ek (rw y v)))
 
 -- ---- the other events
 
@@ -171,13 +229,12 @@ module _ (c : Card) (k : Session) where
   session-broken e b = bench-reply c 6 ∙ ap replyOf (sym (passed _ _ e ∙ picked _ _ b))
 
   pub session-changes : not (sessionSound k) ≡ false → broken c ≡ false
-      → reply (record { settings = c .settings; files = c .files; purse = c .purse; log = c .log; session = k }) 0 0 ≡ replyOf (sessionChanged c k)
+      → {n : Card} → n ≡ onChannel c (bare (stageOf k)) → reply n 0 0 ≡ replyOf (sessionChanged c k)
   unfolding sessionChanged
-  session-changes e b = made ∙ ap replyOf (sym (passed _ _ e ∙ passed _ _ b))
+  session-changes e b q = ap (λ (x : Card). reply x 0 0) (q ∙ on-channel c (withSession (view c) k) (bare (stageOf k)) (unfold withSession view in refl)) ∙ silent ∙ ap replyOf (sym (passed _ _ e ∙ passed _ _ b))
     where
-      made : reply (record { settings = c .settings; files = c .files; purse = c .purse; log = c .log; session = k }) 0 0
-          ≡ replyOf (laidInto c (record { state = withSession (view c) k; out = [] }))
-      made = unfold replyOf laidInto withSession put view in ap (λ (l : Log). reply (record { settings = c .settings; files = c .files; purse = c .purse; log = l; session = k }) 0 0) (sym (logbook.put-view (c .log)))
+      silent : reply (put c (withSession (view c) k)) 0 0 ≡ replyOf (laidInto c (record { state = withSession (view c) k; out = [] }))
+      silent = unfold replyOf laidInto in refl
 
 pub power-broken : (c : Card) → broken c ≡ true → reply c 6 0 ≡ replyOf (poweredUp c)
 unfolding poweredUp
@@ -190,13 +247,13 @@ power-ends c k e b = made ∙ ap replyOf (sym (passed _ _ b))
     made : reply k 0 0 ≡ replyOf (laidInto c (record { state = ended (view c); out = [] }))
     made = unfold replyOf laidInto in ap (λ (x : Card). reply x 0 0) e
 
-module _ (s : Settings) (v : ℤ) (n : ℕ) (c : Card) (e : n ≡ orderRefusal s v) where
-  pub order-refused : (n ≡ 0 → ⊥) → c ≡ blank → reply c n 0 ≡ replyOf (personalised s v)
+module _ (s : Settings) (ks : Keys) (v : ℤ) (n : ℕ) (c : Card) (e : n ≡ orderRefusal s v) where
+  pub order-refused : (n ≡ 0 → ⊥) → c ≡ blank → reply c n 0 ≡ replyOf (personalised s ks v)
   unfolding personalised
   order-refused h k = rw (k, e) (bench-reply blank (orderRefusal s v) ∙ ap (λ (x : Card). replyOf (bench x (orderRefusal s v))) (sym (passed _ _ (ne-eqb _ _ (λ q. h (e ∙ q))))))
 
-  pub order-taken : n ≡ 0 → c ≡ issued s v → reply c 0 0 ≡ replyOf (personalised s v)
+  pub order-taken : n ≡ 0 → c ≡ issued s ks v → reply c 0 0 ≡ replyOf (personalised s ks v)
   unfolding personalised pick
   order-taken h k =
       let z : orderRefusal s v ≡ 0 = sym e ∙ h in
-      rw (k, z) (bench-reply (issued s v) 0)
+      rw (k, z) (bench-reply (issued s ks v) 0)

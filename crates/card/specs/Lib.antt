@@ -3,4 +3,5 @@ pub mod Outcome
 pub mod Events
 pub mod Order
 pub mod Accepted
+pub mod Sealing
 pub mod Laws

@@ -1,23 +1,20 @@
 -- The order of checks over what the code's tests answer, in the two parts in which it asks them, and that it is the rows'.
 use Prim.Native.Nat.{ℕ}
-use mathlib.Core.Bool.{Bool}
+use mathlib.Core.Bool.{Bool, false}
 use mathlib.Core.List.{List, [], _∷_}
 use mathlib.Core.Path.{_≡_, refl, sym, ap, _∙_}
 use borrow.Author.Tests.{eq-eqb, ne-eqb}
 use lib.Dec.{eqb}
 use lib.ListN.{drop}
-use Rattle.tables.specs.Choice.{pick, hit, skip}
-use Rattle.tables.specs.Reasons.{Reason, _when_, first, no-reason, first-refuses, first-passes}
+use Rattle.tables.specs.Choice.{pick, hit, skip, picked}
+use Rattle.tables.specs.Reasons.{Reason, _when_, first, NoReason, no-reason, none-first, first-half, first-refuses, first-passes}
 use Rattle.frames.specs.declared.Faults.{Faults}
 use Rattle.frames.specs.Faults.{faultsOf}
-use Rattle.frames.specs.Frame.{insOf, dataOf, fileOf, wrongSize, wrongClass, wrongParameters, wrongFrame}
-use Rattle.access.specs.declared.Access.{Access}
-use Rattle.access.specs.declared.Access.the-variants.{NotGranted}
-use Rattle.settings.specs.Settings.{accessTo}
+use Rattle.frames.specs.Frame.{insOf, dataOf, wrongSize, wrongClass, wrongParameters, wrongFrame}
 use Rattle.commands.specs.declared.Places.{Places}
 use Rattle.commands.specs.State.{Core}
-use Rattle.commands.specs.Places.{placesOf}
-use Rattle.commands.specs.Rows.{rowsOf, ok, statusOf, commandStatus}
+use Rattle.commands.specs.Places.{placesUnder, placesOf}
+use Rattle.commands.specs.Rows.{macedIn, rowsOf, ok, statusOf, commandStatus}
 use Rattle.card.specs.declared.order.Checked.{Checked}
 
 -- places 1 to 4
@@ -28,14 +25,16 @@ unfoldable pub frameOrder : Bool → Bool → Bool → Bool → ℕ
 frameOrder size class parameters frame = first (framePart size class parameters frame) ok
 
 -- places 5 to 13
-unfoldable pub commandOrder : Bool → Bool → Bool → Bool → Bool → Bool → Bool → Bool → Bool → ℕ
-commandOrder command length file kind grant off value range nothing =
+unfoldable pub commandOrder : Bool → Bool → Bool → Bool → Bool → Bool → Bool → Bool → Bool → Bool → Bool → ℕ
+commandOrder command waits length file kind grant seal off value range nothing =
     first
     ((0x911C when command)
+    ∷ (0x91CA when waits)
     ∷ (0x917E when length)
     ∷ (0x91F0 when file)
     ∷ (0x919D when kind)
     ∷ (0x91AE when grant)
+    ∷ (0x911E when seal)
     ∷ (0x919D when off)
     ∷ (0x919E when value)
     ∷ (0x91BE when range)
@@ -44,21 +43,20 @@ commandOrder command length file kind grant off value range nothing =
     ok
 
 abbrev pub inOrder : Places → ℕ
-inOrder p = commandOrder (p .command) (p .length) (p .file) (p .kind) (p .grant) (p .off) (p .value) (p .range) (p .nothing)
+inOrder p =
+    commandOrder (p .command) (p .waits) (p .length) (p .file) (p .kind) (p .grant) (p .seal) (p .off) (p .value) (p .range) (p .nothing)
 
 command-by : (c : Core) (i : ℕ) (d : List ℕ) {r : ℕ} {p : Places} → p ≡ placesOf c i d → r ≡ inOrder p → r ≡ commandStatus c i d
-unfolding commandStatus rowsOf commandOrder placesOf
+unfolding commandStatus rowsOf commandOrder placesOf placesUnder
 command-by c i d e q = rw e at q
 
--- what access answered to a frame; one that is refused at places 1 to 4 asks for no file
-unfoldable pub accessFor : Core → List ℕ → Access
-accessFor c f =
-    pick (eqb (frameOrder (wrongSize f) (wrongClass f) (wrongParameters f) (wrongFrame f)) ok)
-    (accessTo (c .settings) (c .session) (insOf f) (fileOf (dataOf f)))
-    NotGranted
+-- whether the frame's command carries a MAC; one that is refused at places 1 to 4 names no command
+unfoldable pub macedFor : Core → List ℕ → Bool
+macedFor c f =
+    pick (eqb (frameOrder (wrongSize f) (wrongClass f) (wrongParameters f) (wrongFrame f)) ok) (macedIn c (insOf f) (dataOf f)) false
 
 unfoldable pub checkedOf : Core → List ℕ → Checked
-checkedOf c f = record { status = statusOf c f; access = accessFor c f }
+checkedOf c f = record { status = statusOf c f; maced = macedFor c f }
 
 module _ (c : Core) (f : List ℕ) where
   frames : List Reason
@@ -78,17 +76,24 @@ module _ (c : Core) (f : List ℕ) where
     unfolding statusOf commandStatus rowsOf frames
     frame-passes z ei ed k q = command-by c _ _ k q ∙ rw (ei, ed) (sym (first-passes frames (drop 4 (rowsOf c [] (insOf f) (dataOf f))) ok (no-reason frames ok refl (sym by-frame ∙ z))))
 
-    pub frame-refused : (s ≡ ok → ⊥) → record { status = s; access = NotGranted } ≡ checkedOf c f
-    unfolding checkedOf accessFor frameOrder frames
-    frame-refused n = λ i. record { status = frame-refuses n i; access = skip _ (accessTo (c .settings) (c .session) (insOf f) (fileOf (dataOf f))) NotGranted (ne-eqb (first frames ok) ok (λ q. n (by-frame ∙ q))) refl i }
+    pub frame-refused : (s ≡ ok → ⊥) → record { status = s; maced = false } ≡ checkedOf c f
+    unfolding checkedOf macedFor frameOrder frames
+    frame-refused n = λ i. record { status = frame-refuses n i; maced = skip _ (macedIn c (insOf f) (dataOf f)) false (ne-eqb (first frames ok) ok (λ q. n (by-frame ∙ q))) refl i }
 
     pub frame-passed : {r i : ℕ} {d : List ℕ} {p : Places} → s ≡ ok → i ≡ insOf f → d ≡ dataOf f → p ≡ placesOf c i d → r ≡ inOrder p
-        → record { status = r; access = p .access } ≡ checkedOf c f
-    unfolding checkedOf accessFor frameOrder frames placesOf
+        → record { status = r; maced = p .maced } ≡ checkedOf c f
+    unfolding checkedOf macedFor frameOrder frames placesOf placesUnder
     frame-passed {p = p} z ei ed k q =
-        let a : p .access ≡ accessTo (c .settings) (c .session) (insOf f) (fileOf (dataOf f)) = rw (k, ei, ed) refl in
-        λ j. record { status = frame-passes z ei ed k q j; access = hit _ _ NotGranted (eq-eqb (first frames ok) ok (sym by-frame ∙ z)) a j }
+        let a : p .maced ≡ macedIn c (insOf f) (dataOf f) = rw (k, ei, ed) refl in
+        λ j. record { status = frame-passes z ei ed k q j; maced = hit _ _ false (eq-eqb (first frames ok) ok (sym by-frame ∙ z)) a j }
 
   pub status-told : {r : Checked} → r ≡ checkedOf c f → r .status ≡ statusOf c f
   unfolding checkedOf
   status-told e = ap (λ (r : Checked). r .status) e
+
+  -- what an accepted frame carries on
+  pub maced-told : {r : Checked} → r ≡ checkedOf c f → statusOf c f ≡ ok → r .maced ≡ macedIn c (insOf f) (dataOf f)
+  unfolding checkedOf macedFor frameOrder frames statusOf rowsOf
+  maced-told e z =
+      ap (λ (r : Checked). r .maced) e
+      ∙ picked _ _ (eq-eqb _ ok (none-first frames ok (first-half frames (drop 4 (rowsOf c [] (insOf f) (dataOf f))) (no-reason (rowsOf c f (insOf f) (dataOf f)) ok refl z))))

@@ -5,27 +5,33 @@ use Rattle.settings.specs.declared.Settings.{Settings}
 use Rattle.purse.specs.declared.Purse.{Purse}
 use Rattle.logbook.specs.declared.Log.{Log}
 use Rattle.logbook.specs.View as log
-use Rattle.access.specs.declared.Session.{Session}
+use Rattle.keys.specs.declared.Keys.{Keys}
+use Rattle.channel.specs.declared.Channel.{Channel}
 use Rattle.standing.specs.Rules.{brokenBy}
 use Rattle.card.specs.declared.Card.{Card}
 
-abbrev pub coreOf : Settings → Purse → Log → Session → Core
-coreOf s p l k = record { settings = s; purse = p; journal = log.view l; session = k }
+abbrev pub coreOf : Settings → Keys → Purse → Log → Channel → Core
+coreOf s ks p l c = record { settings = s; keys = ks; purse = p; journal = log.view l; channel = c }
 
 unfoldable pub view : Card → State
-view c = record { core = coreOf (c .settings) (c .purse) (c .log) (c .session); files = c .files }
+view c = record { core = coreOf (c .settings) (c .keys) (c .purse) (c .log) (c .channel); files = c .files }
 
 -- the state s laid into the card c: bytes of its log that the rules do not speak of stay
 unfoldable pub put : Card → State → Card
 put c s =
     record {
       settings = s .core .settings;
+      keys = s .core .keys;
       files = s .files;
       purse = s .core .purse;
       log = log.put (c .log) (s .core .journal);
-      session = s .core .session;
+      channel = s .core .channel;
     }
 
 -- the card breaks a standing rule
 abbrev pub broken : Card → Bool
-broken c = brokenBy (c .settings) (c .purse) (c .log) (c .session)
+broken c = brokenBy (c .settings) (c .purse) (c .log) (c .channel .stage)
+
+-- the card with another channel
+unfoldable pub onChannel : Card → Channel → Card
+onChannel c k = record { settings = c .settings; keys = c .keys; files = c .files; purse = c .purse; log = c .log; channel = k }

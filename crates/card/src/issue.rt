@@ -1,7 +1,9 @@
 // Personalisation: the card that an order leaves, and its bench refusal.
 use super::Card;
-use access::Session;
+use channel::Channel;
+use channel::Stage;
 use datafiles::Files;
+use keys::Keys;
 use limits::Limits;
 use logbook::Log;
 use purse::Purse;
@@ -9,16 +11,17 @@ use settings::Settings;
 ghost use mathlib.Core.Path.{_≡_};
 ghost use Rattle.card.specs.Events.{issued, blank, orderRefusal};
 
-// A card with these settings and this value, and nothing else on it.
-pub fn issued(settings: Settings, value: i32) -> Card
-    ensures { λ r. ⌜ r ≡ issued settings value ⌝ }
+// A card with these settings, keys and this value, and nothing else on it.
+pub fn issued(settings: Settings, keys: Keys, value: i32) -> Card
+    ensures { λ r. ⌜ r ≡ issued settings keys value ⌝ }
 {
     Card {
         settings,
+        keys,
         files: Files::zeros(),
         purse: Purse::resting(value, 0),
         log: Log::empty(),
-        session: Session::Nobody,
+        channel: Channel::bare(Stage::Closed),
     }
 }
 
@@ -28,7 +31,7 @@ pub fn blank() -> Card
 {
     let limits = Limits { lower: 0, upper: 0 };
     let settings = Settings::alike(0xFFFF, limits, false);
-    issued(settings, 0)
+    issued(settings, Keys::zeros(), 0)
 }
 
 // The bench refusal of a personalisation, or 0.

@@ -3,28 +3,36 @@ mod issue;
 mod order;
 
 use access::Session;
+use channel::Channel;
+use channel::Inputs;
+use channel::Stage;
 use columns::table;
+use commands::modes;
 use datafiles::Files;
+use keys::Keys;
 use logbook::Log;
 use purse::Purse;
 use settings::Settings;
 ghost use mathlib.Core.Path.{_≡_};
 ghost use mathlib.Core.Bool.{true, false};
-ghost use Prim.Native.Nat.{_≤_};
+ghost use Prim.Native.Nat.{_+_, _≤_};
 ghost use lib.ListN.{length};
-ghost use Rattle.commands.specs.Rows.{commandStatus, ok};
+ghost use Rattle.tables.specs.Choice.{pick};
 ghost use Rattle.wire.specs.Bytes.{laidIn, word};
-ghost use Rattle.columns.specs.Table.{writeData, shows};
-ghost use Rattle.card.specs.View.{view, put, broken};
+ghost use Rattle.columns.specs.Table.{shows, authenticateFirst, authenticateSecond};
+ghost use Rattle.card.specs.View.{view, put, broken, onChannel};
 ghost use Rattle.card.specs.Outcome.{replyOf, Answered};
-ghost use Rattle.card.specs.Events.{changed, ended, accepted, laidInto, replyRoom, commanded, sessionChanged, poweredUp, personalised};
+ghost use Rattle.card.specs.Events.{ended, acceptedPlain, laidInto, replyRoom, commanded, sessionChanged, poweredUp, personalised};
+ghost use Rattle.card.specs.Accepted.{Granted};
+ghost use Rattle.card.specs.Sealing.{Sealed};
 
 pub struct Card {
     pub settings: Settings,
+    pub keys: Keys,
     pub files: Files,
     pub purse: Purse,
     pub log: Log,
-    pub session: Session,
+    pub channel: Channel,
 }
 
 // What an event answers: the card, the bench refusal's number or 0, and the length of the reply.
@@ -45,6 +53,8 @@ impl Card {
 
     pub const OK: u16 = 0x9100;
 
+    pub const SECOND_PART: u16 = 0x91AF;
+
     pub const WRONG_LENGTH: u16 = 0x6700;
 
     pub const WRONG_CLASS: u16 = 0x6E00;
@@ -53,6 +63,8 @@ impl Card {
 
     pub const UNKNOWN_COMMAND: u16 = 0x911C;
 
+    pub const ABORTED: u16 = 0x91CA;
+
     pub const DATA_LENGTH: u16 = 0x917E;
 
     pub const NO_SUCH_FILE: u16 = 0x91F0;
@@ -60,6 +72,8 @@ impl Card {
     pub const DENIED: u16 = 0x919D;
 
     pub const NOT_GRANTED: u16 = 0x91AE;
+
+    pub const INTEGRITY: u16 = 0x911E;
 
     pub const BAD_PARAMETER: u16 = 0x919E;
 
@@ -72,33 +86,36 @@ impl Card {
         ensures { λ r. ⌜ r ≡ put self (ended (view self)) ⌝ }
     {
         let settings = self.settings;
+        let keys = self.keys;
         let files = self.files;
         let purse = self.purse;
         let log = self.log;
         Card {
             settings,
+            keys,
             files,
             purse: purse.drop_pending(),
             log: log.drop_pending(),
-            session: Session::Nobody,
+            channel: Channel::bare(Stage::Closed),
         }
     }
 
-    // The card after an accepted WriteData.
-    fn written(self, d: &[u8]) -> Card
-        ensures { λ r. ⌜ r ≡ put self (changed (view self) writeData (now (d .entry))) ⌝ }
+    // The card with another channel.
+    fn on_channel(self, channel: Channel) -> Card
+        ensures { λ r. ⌜ r ≡ onChannel self channel ⌝ }
     {
         let settings = self.settings;
+        let keys = self.keys;
         let files = self.files;
         let purse = self.purse;
         let log = self.log;
-        let session = self.session;
         Card {
             settings,
-            files: effects::next_files(files, table::WRITE_DATA, d),
+            keys,
+            files,
             purse,
             log,
-            session,
+            channel,
         }
     }
 
@@ -119,42 +136,99 @@ impl Card {
         [(s / 256) as u8, (s % 256) as u8]
     }
 
-    // Lays the two status bytes over the front of reply.
-    fn put_status(status: u16, reply: &mut [u8])
-        ensures { λ _. ⌜ now (reply .exit) ≡ laidIn (now (reply .entry)) 0 (word status) ⌝ }
+    // Lays the status behind n bytes of reply, and answers the length of them all.
+    fn close(status: u16, n: usize, reply: &mut [u8]) -> usize
+        requires { ⌜ n ≤ 256 ⌝ }
+        ensures { λ r. ⌜ (now (reply .exit) ≡ laidIn (now (reply .entry)) n (word status)) × (r ≡ n + 2) ⌝ }
     {
         let two = Card::word_of(status);
-        wire::lay(reply, 0, &two);
+        wire::lay(reply, n, &two);
+        n + 2
     }
 
-    // An accepted command that shows something: its data, then 9100.
-    fn shown(self, ins: u8, d: &[u8], reply: &mut [u8]) -> Reply
-        requires { ⌜ (shows ins ≡ true) × (commandStatus (view self .core) ins (now d) ≡ ok) × (broken self ≡ false) × (replyRoom ≤ length (now reply)) ⌝ }
-        ensures { λ r. ⌜ Answered (laidInto self (accepted (view self) ins (now (d .entry)))) (now (reply .entry)) (now (reply .exit)) r ⌝ }
+    // Lays behind the n bytes of data their MAC, if the command had one, and 9100.
+    fn seal(channel: Channel, maced: bool, n: usize, reply: &mut [u8]) -> usize
+        requires { ⌜ (n + pick maced 8 0 ≤ 256) × (replyRoom ≤ length (now reply)) ⌝ }
+        ensures { λ r. ⌜ Sealed channel maced n (now (reply .entry)) (now (reply .exit)) r ⌝ }
+    {
+        if maced {
+            let stage = channel.stage;
+            let secret = channel.secret;
+            let ti = channel.ti;
+            let mac = sealing::seal(secret, 0x00, stage.counter(), ti, &reply[0..n]);
+            wire::lay(reply, n, &mac);
+            return Card::close(Card::OK, n + 8, reply);
+        }
+        Card::close(Card::OK, n, reply)
+    }
+
+    // An accepted first part of an authentication.
+    fn begun(self, inputs: Inputs, d: &[u8], reply: &mut [u8]) -> Reply
+        requires { ⌜ replyRoom ≤ length (now reply) ⌝ }
+        ensures { λ r. ⌜ Answered (laidInto self (acceptedPlain false (view self) inputs authenticateFirst (now (d .entry)))) (now (reply .entry)) (now (reply .exit)) r ⌝ }
+    {
+        let keys = self.keys;
+        let bytes = authentication::show_first(keys, inputs, d);
+        wire::lay(reply, 0, &bytes);
+        let len = Card::close(Card::SECOND_PART, 16, reply);
+        let card = self.on_channel(authentication::begin(inputs, d));
+        Reply {
+            card,
+            refusal: 0,
+            len,
+        }
+    }
+
+    // An accepted second part.
+    fn opened(self, inputs: Inputs, d: &[u8], reply: &mut [u8]) -> Reply
+        requires { ⌜ (replyRoom ≤ length (now reply)) × (length (now d) ≡ 32) ⌝ }
+        ensures { λ r. ⌜ Answered (laidInto self (acceptedPlain false (view self) inputs authenticateSecond (now (d .entry)))) (now (reply .entry)) (now (reply .exit)) r ⌝ }
+    {
+        let keys = self.keys;
+        let channel = self.channel;
+        let bytes = authentication::show_second(keys, channel, d);
+        wire::lay(reply, 0, &bytes);
+        let len = Card::close(Card::OK, 32, reply);
+        let card = self.on_channel(authentication::open(keys, channel, d));
+        Reply {
+            card,
+            refusal: 0,
+            len,
+        }
+    }
+
+    // An accepted command that shows something.
+    fn shown(self, maced: bool, inputs: Inputs, ins: u8, d: &[u8], reply: &mut [u8]) -> Reply
+        requires { ⌜ (shows ins ≡ true) × Granted (view self .core) maced ins (now d) × (broken self ≡ false) × (replyRoom ≤ length (now reply)) ⌝ }
+        ensures { λ r. ⌜ Answered (laidInto self (acceptedPlain maced (view self) inputs ins (now (d .entry)))) (now (reply .entry)) (now (reply .exit)) r ⌝ }
     {
         let settings = self.settings;
         let files = self.files;
         let purse = self.purse;
         let log = self.log;
+        let channel = self.channel;
+        let next = channel.counted();
         let n = replies::show(settings, files, purse, log, ins, d, reply);
-        let two = Card::word_of(Card::OK);
-        wire::lay(reply, n, &two);
+        let len = Card::seal(next, maced, n, reply);
+        let card = self.on_channel(next);
         Reply {
-            card: self,
+            card,
             refusal: 0,
-            len: n + 2,
+            len,
         }
     }
 
-    // A command, with a buffer for its reply. Each way out makes its card once: the files are long, and a copy of them costs
-    // more than all tests.
-    pub fn command(self, frame: &[u8], reply: &mut [u8]) -> Reply
-        ensures { λ r. ⌜ Answered (commanded self (now (frame .entry)) (length (now (reply .entry)))) (now (reply .entry)) (now (reply .exit)) r ⌝ }
+    // A command, with what the bench hands in and a buffer for its reply. Each way out makes its card once: the files are long,
+    // and a copy of them costs more than all tests.
+    pub fn command(self, frame: &[u8], inputs: Inputs, reply: &mut [u8]) -> Reply
+        ensures { λ r. ⌜ Answered (commanded self (now (frame .entry)) inputs (length (now (reply .entry)))) (now (reply .entry)) (now (reply .exit)) r ⌝ }
     {
         let settings = self.settings;
+        let keys = self.keys;
         let purse = self.purse;
         let log = self.log;
-        let session = self.session;
+        let channel = self.channel;
+        let stage = channel.stage;
         if reply.len() < Card::REPLY_ROOM {
             return Reply {
                 card: self,
@@ -162,50 +236,66 @@ impl Card {
                 len: 0,
             };
         }
-        if standing::breaks(settings, purse, log, session) {
+        if standing::breaks(settings, purse, log, stage) {
             return Reply {
                 card: self,
                 refusal: 6,
                 len: 0,
             };
         }
-        let checked = order::check(settings, purse, log, session, frame);
+        let checked = order::check(settings, keys, purse, log, channel, frame);
         let status = checked.status;
         if status != Card::OK {
-            Card::put_status(status, reply);
+            let len = Card::close(status, 0, reply);
             let card = self.ended();
             return Reply {
                 card,
                 refusal: 0,
-                len: 2,
+                len,
             };
         }
+        let maced = checked.maced;
         let ins = wire::byte_at(frame, 1);
-        let d = frames::data(frame);
-        if Card::shows(ins) {
-            return self.shown(ins, d, reply);
+        let d = modes::plain(maced, frames::data(frame));
+        if ins == table::AUTHENTICATE_FIRST {
+            return self.begun(inputs, d, reply);
         }
-        Card::put_status(Card::OK, reply);
+        if ins == table::AUTHENTICATE_SECOND {
+            return self.opened(inputs, d, reply);
+        }
+        if Card::shows(ins) {
+            return self.shown(maced, inputs, ins, d, reply);
+        }
+        let next = channel.counted();
+        let len = Card::seal(next, maced, 0, reply);
+        let files = self.files;
         if ins == table::WRITE_DATA {
-            let card = self.written(d);
+            let card = Card {
+                settings,
+                keys,
+                files: effects::next_files(files, table::WRITE_DATA, d),
+                purse,
+                log,
+                channel: next,
+            };
             return Reply {
                 card,
                 refusal: 0,
-                len: 2,
+                len,
             };
         }
-        let files = self.files;
         let card = Card {
             settings,
+            keys,
             files,
             purse: effects::next_purse(purse, settings.limits, ins, d),
             log: effects::next_log(log, ins, d),
-            session,
+            channel: next,
         };
         Reply {
             card,
             refusal: 0,
-            len: 2,
+            len,
         }
     }
 
@@ -221,24 +311,18 @@ impl Card {
             };
         }
         let settings = self.settings;
-        let files = self.files;
         let purse = self.purse;
         let log = self.log;
-        let old = self.session;
-        if standing::breaks(settings, purse, log, old) {
+        let channel = self.channel;
+        let stage = channel.stage;
+        if standing::breaks(settings, purse, log, stage) {
             return Reply {
                 card: self,
                 refusal: 6,
                 len: 0,
             };
         }
-        let card = Card {
-            settings,
-            files,
-            purse,
-            log,
-            session,
-        };
+        let card = self.on_channel(Channel::bare(Stage::of_session(session)));
         Reply {
             card,
             refusal: 0,
@@ -253,8 +337,9 @@ impl Card {
         let settings = self.settings;
         let purse = self.purse;
         let log = self.log;
-        let session = self.session;
-        if standing::breaks(settings, purse, log, session) {
+        let channel = self.channel;
+        let stage = channel.stage;
+        if standing::breaks(settings, purse, log, stage) {
             return Reply {
                 card: self,
                 refusal: 6,
@@ -270,8 +355,8 @@ impl Card {
     }
 
     // A new card, or a bench refusal with the blank one beside it.
-    pub fn personalise(settings: Settings, value: i32) -> Reply
-        ensures { λ r. ⌜ r ≡ replyOf (personalised settings value) ⌝ }
+    pub fn personalise(settings: Settings, keys: Keys, value: i32) -> Reply
+        ensures { λ r. ⌜ r ≡ replyOf (personalised settings keys value) ⌝ }
     {
         let refusal = issue::refusal(settings, value);
         if refusal != 0 {
@@ -282,7 +367,7 @@ impl Card {
             };
         }
         Reply {
-            card: issue::issued(settings, value),
+            card: issue::issued(settings, keys, value),
             refusal: 0,
             len: 0,
         }

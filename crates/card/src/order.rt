@@ -1,9 +1,9 @@
 // The order of checks: the first reason that applies names the status.
 use super::Card;
-use access::Access;
-use access::Session;
+use channel::Channel;
 use commands::Places;
 use frames::Faults;
+use keys::Keys;
 use logbook::Log;
 use purse::Purse;
 use settings::Settings;
@@ -11,10 +11,10 @@ ghost use mathlib.Core.Path.{_≡_};
 ghost use Rattle.card.specs.View.{coreOf};
 ghost use Rattle.card.specs.Order.{frameOrder, commandOrder, checkedOf};
 
-// What the order of checks leaves: the status, and what the access decision answered, for the making of the reply.
+// What the order of checks leaves: the status, and whether the command carries a MAC, for the making of the reply.
 pub struct Checked {
     pub status: u16,
-    pub access: Access,
+    pub maced: bool,
 }
 
 // Places 1 to 4: the first that applies names the status.
@@ -39,19 +39,24 @@ fn frame_order(size: bool, class: bool, parameters: bool, frame: bool) -> u16
 // Places 5 to 13.
 fn command_order(
     command: bool,
+    waits: bool,
     length: bool,
     file: bool,
     kind: bool,
     grant: bool,
+    seal: bool,
     off: bool,
     value: bool,
     range: bool,
     nothing: bool,
 ) -> u16
-    ensures { λ r. ⌜ r ≡ commandOrder command length file kind grant off value range nothing ⌝ }
+    ensures { λ r. ⌜ r ≡ commandOrder command waits length file kind grant seal off value range nothing ⌝ }
 {
     if command {
         return Card::UNKNOWN_COMMAND;
+    }
+    if waits {
+        return Card::ABORTED;
     }
     if length {
         return Card::DATA_LENGTH;
@@ -64,6 +69,9 @@ fn command_order(
     }
     if grant {
         return Card::NOT_GRANTED;
+    }
+    if seal {
+        return Card::INTEGRITY;
     }
     if off {
         return Card::DENIED;
@@ -81,31 +89,40 @@ fn command_order(
 }
 
 // A frame through the order of checks.
-pub fn check(settings: Settings, purse: Purse, log: Log, session: Session, frame: &[u8]) -> Checked
-    ensures { λ r. ⌜ r ≡ checkedOf (coreOf settings purse log session) (now (frame .entry)) ⌝ }
+pub fn check(
+    settings: Settings,
+    keys: Keys,
+    purse: Purse,
+    log: Log,
+    channel: Channel,
+    frame: &[u8],
+) -> Checked
+    ensures { λ r. ⌜ r ≡ checkedOf (coreOf settings keys purse log channel) (now (frame .entry)) ⌝ }
 {
     let f = Faults::asked(frame);
     let s = frame_order(f.size, f.class, f.parameters, f.frame);
     if s != Card::OK {
         return Checked {
             status: s,
-            access: Access::NotGranted,
+            maced: false,
         };
     }
     let ins = wire::byte_at(frame, 1);
-    let d = frames::data(frame);
-    let p = Places::asked(settings, purse, log, session, ins, d);
+    let x = frames::data(frame);
+    let p = Places::asked(settings, keys, purse, log, channel, ins, x);
     let status = command_order(
         p.command,
+        p.waits,
         p.length,
         p.file,
         p.kind,
         p.grant,
+        p.seal,
         p.off,
         p.value,
         p.range,
         p.nothing,
     );
-    let access = p.access;
-    Checked { status, access }
+    let maced = p.maced;
+    Checked { status, maced }
 }

@@ -42,6 +42,13 @@ abortTransaction = 0xA7
 abbrev pub getFileSettings : ℕ
 getFileSettings = 0xF5
 
+-- AuthenticateEV2First, its first part and its second
+abbrev pub authenticateFirst : ℕ
+authenticateFirst = 0x71
+
+abbrev pub authenticateSecond : ℕ
+authenticateSecond = 0xAF
+
 -- ---- on which kind of file a command acts
 
 abbrev pub onData : ℕ → Bool
@@ -63,6 +70,10 @@ namesFile i = onFile i || eqb i getFileSettings
 -- commit and abort, which name no file
 abbrev pub ends : ℕ → Bool
 ends i = eqb i commitTransaction || eqb i abortTransaction
+
+-- the base commands and GetFileSettings: all but the two parts of an authentication
+abbrev pub isBase : ℕ → Bool
+isBase i = namesFile i || ends i
 
 -- the commands whose reply has data; they change nothing
 abbrev pub shows : ℕ → Bool

@@ -23,6 +23,11 @@ pub const ABORT_TRANSACTION: u8 = 0xA7;
 
 pub const GET_FILE_SETTINGS: u8 = 0xF5;
 
+// AuthenticateEV2First, its first part and its second.
+pub const AUTHENTICATE_FIRST: u8 = 0x71;
+
+pub const AUTHENTICATE_SECOND: u8 = 0xAF;
+
 pub const VALUE_03: u8 = 0x03;
 
 pub const LOG_01: u8 = 0x01;

@@ -13,16 +13,22 @@ use Rattle.frames.specs.Frame.{insOf, dataOf, fileOf}
 use Rattle.settings.specs.declared.Settings.{Settings}
 use Rattle.settings.specs.Settings.{rightsOf, accessTo}
 use Rattle.commands.specs.State.{Core}
-use Rattle.commands.specs.Rows.{otherKindOrNever, notGranted, rowsUnder, rowsOf, ok, statusOf}
+use Rattle.channel.specs.Channel.{actingOf}
+use Rattle.commands.specs.Modes.{plainOf}
+use Rattle.commands.specs.Rows.{otherKindOrNever, notGranted, macedIn, rowsUnder, rowsOf, ok, statusOf}
 
 -- access as the paper decides it, every grant told as one
 unfoldable pub undividedTo : Settings → Session → ℕ → ℕ → Access
 undividedTo s k i n = undivided (rightsOf s n) k (byRead i) (byWrite i) (eqb i getValue && s .free)
 
--- the status by that
+-- the status by that; which commands carry a MAC is told by the door, as request 06 asks
 unfoldable pub paperStatus : Core → List ℕ → ℕ
-paperStatus c f = first (rowsUnder (undividedTo (c .settings) (c .session) (insOf f) (fileOf (dataOf f))) c f (insOf f) (dataOf f)) ok
+paperStatus c f =
+    first
+    (rowsUnder (undividedTo (c .settings) (actingOf (c .channel .stage)) (insOf f) (fileOf (dataOf f))) (macedIn c (insOf f) (dataOf f)) c f (insOf f) (dataOf f)
+    (plainOf (macedIn c (insOf f) (dataOf f)) (dataOf f)))
+    ok
 
 pub status-stays : (c : Core) (f : List ℕ) → paperStatus c f ≡ statusOf c f
 unfolding paperStatus statusOf rowsOf undividedTo accessTo otherKindOrNever notGranted
-status-stays c f = simp (same-status (rightsOf (c .settings) (fileOf (dataOf f))) (c .session) (byRead (insOf f)) (byWrite (insOf f)) (eqb (insOf f) getValue && c .settings .free))
+status-stays c f = simp (same-status (rightsOf (c .settings) (fileOf (dataOf f))) (actingOf (c .channel .stage)) (byRead (insOf f)) (byWrite (insOf f)) (eqb (insOf f) getValue && c .settings .free))

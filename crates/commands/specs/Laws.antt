@@ -3,10 +3,10 @@ use Prim.Native.Nat.{ℕ}
 use mathlib.Core.Bool.{true, false, not}
 use mathlib.Core.List.{List, []}
 use mathlib.Core.Path.{_≡_, refl, sym, _∙_}
-use borrow.Author.Tests.{not-false}
+use borrow.Author.Tests.{not-false, eqb-true}
 use lib.ListN.{length, drop, take}
 use lib.IntN.{pos, _+ℤ_, _-ℤ_}
-use Rattle.tables.specs.Choice.{pick, none, or-no}
+use Rattle.tables.specs.Choice.{pick, none, or-no, and-right}
 use Rattle.tables.specs.Reasons.{NoReason, no-reason, first-passes}
 use Rattle.wire.specs.Bytes.{outsideOf}
 use Rattle.datafiles.specs.Files.{sizeOf}
@@ -15,19 +15,21 @@ use Rattle.limits.specs.Limits.{within}
 use Rattle.purse.specs.declared.Purse.{Purse}
 use Rattle.logbook.specs.Journal.{entrySize}
 use Rattle.frames.specs.Frame.{insOf, dataOf, fileOf, offsetOf, lengthOf, amountOf}
-use Rattle.columns.specs.Table.{readData, writeData, credit, debit, limitedCredit, readRecords, writeRecord, getFileSettings, onFile}
+use Rattle.columns.specs.Table.{readData, writeData, credit, debit, limitedCredit, readRecords, writeRecord, getFileSettings, authenticateFirst, authenticateSecond, onFile}
 use Rattle.commands.specs.State.{Core}
-use Rattle.commands.specs.Rows.{otherKindOrNever, notGranted, switchedOff, parameterCases, ranged, roomOf, amountCases, outside, nothingPending, rowsOf, ok, statusOf, commandStatus}
+use Rattle.channel.specs.Channel.{isReal}
+use Rattle.commands.specs.Modes.{macedUnder, plainOf}
+use Rattle.commands.specs.Rows.{unknownCommand, lengthCases, wrongLength, lacksMac, otherKindOrNever, notGranted, partFails, forged, usedUp, switchedOff, parameterCases, ranged, roomOf, amountCases, outside, longRead, nothingPending, macedIn, rowsOf, ok, statusOf, commandStatus}
 
--- none of the thirteen rows applies
+-- none of the fifteen rows applies
 pub clear : (c : Core) (f : List ℕ) → statusOf c f ≡ ok → NoReason (rowsOf c f (insOf f) (dataOf f))
 unfolding statusOf rowsOf
 clear c f e = no-reason (rowsOf c f (insOf f) (dataOf f)) ok refl e
 
 -- none from place 5 on
-pub command-clear : (c : Core) (i : ℕ) (d : List ℕ) → commandStatus c i d ≡ ok → NoReason (drop 4 (rowsOf c [] i d))
+pub command-clear : (c : Core) (i : ℕ) (x : List ℕ) → commandStatus c i x ≡ ok → NoReason (drop 4 (rowsOf c [] i x))
 unfolding commandStatus rowsOf
-command-clear c i d e = no-reason (drop 4 (rowsOf c [] i d)) ok refl e
+command-clear c i x e = no-reason (drop 4 (rowsOf c [] i x)) ok refl e
 
 pub command-ok : (c : Core) (f : List ℕ) → statusOf c f ≡ ok → commandStatus c (insOf f) (dataOf f) ≡ ok
 unfolding statusOf commandStatus rowsOf
@@ -35,17 +37,48 @@ command-ok c f e =
     let n = clear c f e in
     sym (first-passes (take 4 (rowsOf c f (insOf f) (dataOf f))) (drop 4 (rowsOf c [] (insOf f) (dataOf f))) ok (n .0, (n .1 .0, (n .1 .1 .0, (n .1 .1 .1 .0, tt))))) ∙ e
 
--- GetFileSettings is refused at places 1 to 7 only
-pub settings-told : (c : Core) (f d : List ℕ) → NoReason (drop 7 (rowsOf c f getFileSettings d))
-unfolding rowsOf otherKindOrNever notGranted onFile switchedOff parameterCases outside ranged amountCases nothingPending pick
-settings-told c f d = (refl, (refl, (refl, (refl, (refl, (refl, tt))))))
+-- GetFileSettings is refused at places 1 to 7, and for its MAC or at the counter's end: places 8 and 9 spare it, and so do those behind
+pub settings-told : (c : Core) (f x : List ℕ) → NoReason (take 2 (drop 8 (rowsOf c f getFileSettings x))) × NoReason (drop 11 (rowsOf c f getFileSettings x))
+unfolding rowsOf otherKindOrNever notGranted onFile partFails switchedOff parameterCases outside ranged amountCases longRead nothingPending pick
+settings-told c f x = ((refl, (refl, tt)), (refl, (refl, (refl, (refl, tt)))))
 
--- ---- place 12
+-- what a row that does not apply says, where it joins two cases
+module _ (c : Core) (i : ℕ) (x : List ℕ) (e : commandStatus c i x ≡ ok) where
+  -- the data field without its MAC
+  abbrev pub plainIn : List ℕ
+  plainIn = plainOf (macedIn c i x) x
 
-pub inside : (c : Core) (i : ℕ) (d : List ℕ) → commandStatus c i d ≡ ok
-    → outside (c .settings .limits) (c .purse) (length (c .journal .entries)) i d ≡ false
-unfolding rowsOf
-inside c i d e = search (command-clear c i d e)
+  pub known : unknownCommand (c .channel .stage) i ≡ false
+  unfolding rowsOf
+  known = command-clear c i x e .0
+
+  pub long-enough : (wrongLength i plainIn ≡ false) × (lacksMac (macedIn c i x) x ≡ false)
+  unfolding rowsOf
+  long-enough = or-no _ _ (command-clear c i x e .1 .1 .0)
+
+  pub counts : usedUp (c .channel .stage) i ≡ false
+  unfolding rowsOf
+  counts = or-no (forged (c .channel) (macedIn c i x) i x) _ (command-clear c i x e .1 .1 .1 .1 .1 .1 .0) .1
+
+  -- place 12
+  pub inside : (outside (c .settings .limits) (c .purse) (length (c .journal .entries)) i plainIn ≡ false) × (longRead (macedIn c i x) i plainIn ≡ false)
+  unfolding rowsOf
+  inside = or-no _ _ (command-clear c i x e .1 .1 .1 .1 .1 .1 .1 .1 .1 .0)
+
+-- ---- the parts of an authentication
+
+-- they carry no MAC
+pub first-plain : (c : Core) (x : List ℕ) → macedIn c authenticateFirst x ≡ false
+unfolding macedUnder onFile
+first-plain c x = and-right (isReal (c .channel .stage)) false refl
+
+pub second-plain : (c : Core) (x : List ℕ) → macedIn c authenticateSecond x ≡ false
+unfolding macedUnder onFile
+second-plain c x = and-right (isReal (c .channel .stage)) false refl
+
+pub second-length : (d : List ℕ) → wrongLength authenticateSecond d ≡ false → length d ≡ 32
+unfolding lengthCases
+second-length d e = eqb-true (length d) 32 (not-false _ (none (lengthCases authenticateSecond d) e .1 .1 .1 .1 .1 .1 .1 .1 .1 .1 .1 .1 .1 .0))
 
 module _ (l : Limits) (p : Purse) (n : ℕ) (d : List ℕ) where
   pub read-inside : outside l p n readData d ≡ false → outsideOf (sizeOf (fileOf d)) (offsetOf d) (lengthOf d) ≡ false

@@ -1,24 +1,32 @@
--- Which of places 5 to 13 apply, as the code asks them: the tests of the table's rows, one by one, and what access answered.
+-- Which of places 5 to 13 apply, as the code asks them: the tests of the table's rows, one by one, and whether there is a MAC.
 use Prim.Native.Nat.{ℕ}
+use mathlib.Core.Bool.{Bool, _||_}
 use mathlib.Core.List.{List}
 use lib.ListN.{length}
+use Rattle.access.specs.declared.Access.{Access}
 use Rattle.frames.specs.Frame.{fileOf}
-use Rattle.settings.specs.Settings.{accessTo}
 use Rattle.commands.specs.declared.Places.{Places}
 use Rattle.commands.specs.State.{Core, logPending}
-use Rattle.commands.specs.Rows.{unknownCommand, wrongLength, unknownFile, otherKindOrNever, notGranted, switchedOff, badParameter, outside, nothingPending}
+use Rattle.commands.specs.Modes.{accessFor, plainOf}
+use Rattle.commands.specs.Rows.{unknownCommand, interrupts, wrongLength, lacksMac, unknownFile, otherKindOrNever, notGranted, partFails, forged, usedUp, switchedOff, badParameter, outside, longRead, nothingPending, macedIn}
 
-unfoldable pub placesOf : Core → ℕ → List ℕ → Places
-placesOf c i d =
+-- where access to the file is a, and m says that the data field x is d with a MAC
+unfoldable pub placesUnder : Access → Bool → Core → ℕ → List ℕ → List ℕ → Places
+placesUnder a m c i x d =
     record {
-      command = unknownCommand i;
-      length = wrongLength i d;
-      file = unknownFile i (fileOf d);
-      kind = otherKindOrNever i (fileOf d) (accessTo (c .settings) (c .session) i (fileOf d));
-      grant = notGranted i (accessTo (c .settings) (c .session) i (fileOf d));
+      command = unknownCommand (c .channel .stage) i;
+      waits = interrupts (c .channel .stage) i;
+      length = wrongLength i d || lacksMac m x;
+      file = unknownFile i (fileOf x);
+      kind = otherKindOrNever i (fileOf x) a;
+      grant = notGranted i a || partFails (c .keys) (c .channel) i d;
+      seal = forged (c .channel) m i x || usedUp (c .channel .stage) i;
       off = switchedOff i (c .settings .limited) (c .journal .clears);
       value = badParameter i d;
-      range = outside (c .settings .limits) (c .purse) (length (c .journal .entries)) i d;
+      range = outside (c .settings .limits) (c .purse) (length (c .journal .entries)) i d || longRead m i d;
       nothing = nothingPending i (c .purse .moved) (logPending (c .journal));
-      access = accessTo (c .settings) (c .session) i (fileOf d);
+      maced = m;
     }
+
+unfoldable pub placesOf : Core → ℕ → List ℕ → Places
+placesOf c i x = placesUnder (accessFor (c .settings) (c .channel .stage) i x) (macedIn c i x) c i x (plainOf (macedIn c i x) x)

@@ -11,12 +11,16 @@ use Rattle.logbook.specs.View as log
 use Rattle.logbook.specs.Entries.{length-cut}
 use Rattle.access.specs.declared.Access.{Access}
 use Rattle.access.specs.declared.Session.{Session}
+use Rattle.keys.specs.declared.Keys.{Keys}
+use Rattle.channel.specs.declared.Channel.{Channel}
+use Rattle.channel.specs.Channel.{actingOf}
 use Rattle.settings.specs.declared.Settings.{Settings}
 use Rattle.settings.specs.Settings.{accessTo}
 use Rattle.frames.specs.Frame.{fileOf}
 use Rattle.commands.specs.State.{logPending}
-use Rattle.commands.specs.Rows.{unknownCommand, wrongLength, unknownFile, otherKindOrNever, notGranted, switchedOff, badParameter, outside, nothingPending}
-use Rattle.commands.specs.Places.{placesOf}
+use Rattle.commands.specs.Modes.{macedUnder, plainOf}
+use Rattle.commands.specs.Rows.{unknownCommand, interrupts, wrongLength, lacksMac, unknownFile, otherKindOrNever, notGranted, partFails, forged, usedUp, switchedOff, badParameter, outside, longRead, nothingPending}
+use Rattle.commands.specs.Places.{placesUnder, placesOf}
 
 pub entries-view : (l : Log) → length (log.view l .entries) ≡ l .count
 unfolding log.view
@@ -31,14 +35,17 @@ pending-view l = by (l .adds)
     by true = refl
     by false = refl
 
--- where they were asked of the file number n and the access a
-pub asked-by : (s : Settings) (p : Purse) (l : Log) (k : Session) (i : ℕ) (d : List ℕ) {n : ℕ} {a : Access} {v1 v2 v3 v4 v5 v6 v7 v8 v9 : Bool}
-    → n ≡ fileOf d → a ≡ accessTo s k i n → v1 ≡ unknownCommand i → v2 ≡ wrongLength i d → v3 ≡ unknownFile i n → v4 ≡ otherKindOrNever i n a
-    → v5 ≡ notGranted i a → v6 ≡ switchedOff i (s .limited) (l .clears) → v7 ≡ badParameter i d → v8 ≡ outside (s .limits) p (l .count) i d
-    → v9 ≡ nothingPending i (p .moved) (l .adds || l .clears)
-    → record { command = v1; length = v2; file = v3; kind = v4; grant = v5; off = v6; value = v7; range = v8; nothing = v9; access = a }
-    ≡ placesOf (record { settings = s; purse = p; journal = log.view l; session = k }) i d
-unfolding placesOf
-asked-by s p l k i d en ea e1 e2 e3 e4 e5 e6 e7 e8 e9 =
+-- where they were asked of the file number n, the access a, and the data field d without a MAC if m
+pub asked-by : (s : Settings) (ks : Keys) (p : Purse) (l : Log) (ch : Channel) (i : ℕ) (x : List ℕ)
+    {n : ℕ} {k : Session} {a : Access} {m : Bool} {d : List ℕ} {v1 v2 v3 v4 v5 v6 v7 v8 v9 v10 v11 v12 v13 v14 v15 : Bool}
+    → n ≡ fileOf x → k ≡ actingOf (ch .stage) → a ≡ accessTo s k i n → m ≡ macedUnder a s (ch .stage) i x → d ≡ plainOf m x
+    → v1 ≡ unknownCommand (ch .stage) i → v2 ≡ interrupts (ch .stage) i → v3 ≡ wrongLength i d → v4 ≡ lacksMac m x → v5 ≡ unknownFile i n
+    → v6 ≡ otherKindOrNever i n a → v7 ≡ notGranted i a → v8 ≡ partFails ks ch i d → v9 ≡ forged ch m i x → v10 ≡ usedUp (ch .stage) i
+    → v11 ≡ switchedOff i (s .limited) (l .clears) → v12 ≡ badParameter i d → v13 ≡ outside (s .limits) p (l .count) i d → v14 ≡ longRead m i d
+    → v15 ≡ nothingPending i (p .moved) (l .adds || l .clears)
+    → record { command = v1; waits = v2; length = v3 || v4; file = v5; kind = v6; grant = v7 || v8; seal = v9 || v10; off = v11; value = v12; range = v13 || v14; nothing = v15; maced = m }
+    ≡ placesOf (record { settings = s; keys = ks; purse = p; journal = log.view l; channel = ch }) i x
+unfolding placesOf placesUnder
+asked-by s ks p l ch i x en ek ea em ed e1 e2 e3 e4 e5 e6 e7 e8 e9 e10 e11 e12 e13 e14 e15 =
     let c : log.view l .clears ≡ l .clears = unfold log.view in refl in
-    rw (e1, e2, e3, e4, e5, e6, e7, e8, e9, ea, en, entries-view l, pending-view l, c) refl
+    rw (e1, e2, e3, e4, e5, e6, e7, e8, e9, e10, e11, e12, e13, e14, e15, ed, em, ea, ek, en, entries-view l, pending-view l, c) refl

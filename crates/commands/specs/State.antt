@@ -4,15 +4,17 @@ use Rattle.datafiles.specs.declared.Files.{Files}
 use Rattle.purse.specs.declared.Purse.{Purse}
 use Rattle.logbook.specs.Journal.{Journal}
 use Rattle.logbook.specs.View.{some}
-use Rattle.access.specs.declared.Session.{Session}
+use Rattle.keys.specs.declared.Keys.{Keys}
+use Rattle.channel.specs.declared.Channel.{Channel}
 use Rattle.settings.specs.declared.Settings.{Settings}
 
 -- all but the data files: whatever a refusal can depend on
 pub record Core : Type 0 where
   pub settings : Settings
+  pub keys : Keys
   pub purse : Purse
   pub journal : Journal
-  pub session : Session
+  pub channel : Channel
 
 pub record State : Type 0 where
   pub core : Core

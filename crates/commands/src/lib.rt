@@ -1,8 +1,9 @@
 // Places 5 to 13 of the order of checks.
+pub mod modes;
 mod rows;
 
-use access::Access;
-use access::Session;
+use channel::Channel;
+use keys::Keys;
 use logbook::Log;
 use purse::Purse;
 use settings::Settings;
@@ -10,45 +11,54 @@ ghost use mathlib.Core.Path.{_≡_};
 ghost use Rattle.logbook.specs.View.{view};
 ghost use Rattle.commands.specs.Places.{placesOf};
 
-// Which of the places apply, in their order, and what the access decision answered: an accepted command carries it on.
+// Which of the places apply, in their order, and whether the command carries a MAC: an accepted one takes that on.
 pub struct Places {
     pub command: bool,
+    pub waits: bool,
     pub length: bool,
     pub file: bool,
     pub kind: bool,
     pub grant: bool,
+    pub seal: bool,
     pub off: bool,
     pub value: bool,
     pub range: bool,
     pub nothing: bool,
-    pub access: Access,
+    pub maced: bool,
 }
 
 impl Places {
-    // Asks each of the INS and its data field d.
+    // Asks each of the INS and its data field x.
     pub fn asked(
         settings: Settings,
+        keys: Keys,
         purse: Purse,
         log: Log,
-        session: Session,
+        channel: Channel,
         ins: u8,
-        d: &[u8],
+        x: &[u8],
     ) -> Places
-        ensures { λ r. ⌜ r ≡ placesOf (record { settings = settings; purse = purse; journal = view log; session = session }) ins (now (d .entry)) ⌝ }
+        ensures { λ r. ⌜ r ≡ placesOf (record { settings = settings; keys = keys; purse = purse; journal = view log; channel = channel }) ins (now (x .entry)) ⌝ }
     {
-        let n = wire::byte_at(d, 0);
-        let access = settings.access_to(session, ins, n);
+        let stage = channel.stage;
+        let n = wire::byte_at(x, 0);
+        let access = settings.access_to(stage.acting(), ins, n);
+        let maced = modes::is_maced(access, settings, stage, ins, x);
+        let d = modes::plain(maced, x);
         Places {
-            command: rows::unknown_command(ins),
-            length: rows::wrong_length(ins, d),
+            command: rows::unknown_command(stage, ins),
+            waits: rows::interrupts(stage, ins),
+            length: rows::wrong_length(ins, d) | rows::lacks_mac(maced, x),
             file: rows::unknown_file(ins, n),
             kind: rows::other_kind_or_never(ins, n, access),
-            grant: rows::not_granted(ins, access),
+            grant: rows::not_granted(ins, access) | rows::part_fails(keys, channel, ins, d),
+            seal: rows::is_forged(channel, maced, ins, x) | rows::used_up(stage, ins),
             off: rows::switched_off(ins, settings.limited, log.clears),
             value: rows::bad_parameter(ins, d),
-            range: rows::is_outside(settings.limits, purse, log.count, ins, d),
+            range: rows::is_outside(settings.limits, purse, log.count, ins, d)
+                | rows::is_long_read(maced, ins, d),
             nothing: rows::nothing_pending(ins, purse.moved, log.adds | log.clears),
-            access,
+            maced,
         }
     }
 }

@@ -1,21 +1,52 @@
 // Places 5 to 13 of the order of checks: a test each, of an INS with its data field d.
+use super::modes;
 use access::Access;
+use channel::Channel;
+use channel::Stage;
 use columns::Row;
 use columns::table;
 use datafiles::Files;
+use keys::Keys;
 use limits::Limits;
 use logbook::Log;
 use purse::Purse;
 ghost use mathlib.Core.Path.{_≡_};
 ghost use Rattle.access.specs.Rights.{isNever, isNotGranted};
-ghost use Rattle.columns.specs.Table.{isFile};
-ghost use Rattle.commands.specs.Rows.{unknownCommand, wrongLength, unknownFile, otherKindOrNever, notGranted, switchedOff, badParameter, ranged, roomOf, outsideAmount, outside, nothingPending};
+ghost use Rattle.channel.specs.Channel.{isWaiting};
+ghost use Rattle.columns.specs.Table.{isBase, isFile};
+ghost use Rattle.commands.specs.Rows.{unknownCommand, interrupts, wrongLength, lacksMac, unknownFile, otherKindOrNever, notGranted, partFails, forged, usedUp, switchedOff, badParameter, ranged, roomOf, outsideAmount, outside, longRead, nothingPending};
 
-pub fn unknown_command(ins: u8) -> bool
-    ensures { λ r. ⌜ r ≡ unknownCommand ins ⌝ }
+fn is_base(ins: u8) -> bool
+    ensures { λ r. ⌜ r ≡ isBase ins ⌝ }
 {
     let row = Row::of_command(ins);
-    !(row.names | row.ends)
+    row.names | row.ends
+}
+
+fn is_waiting(stage: Stage) -> bool
+    ensures { λ r. ⌜ r ≡ isWaiting stage ⌝ }
+{
+    match stage {
+        Stage::Closed => false,
+        Stage::Bench(_) => false,
+        Stage::Waiting(_) => true,
+        Stage::Real(_, _) => false,
+    }
+}
+
+pub fn unknown_command(stage: Stage, ins: u8) -> bool
+    ensures { λ r. ⌜ r ≡ unknownCommand stage ins ⌝ }
+{
+    let base = is_base(ins);
+    let waits = is_waiting(stage);
+    !(base | (ins == table::AUTHENTICATE_FIRST) | ((ins == table::AUTHENTICATE_SECOND) & waits))
+}
+
+pub fn interrupts(stage: Stage, ins: u8) -> bool
+    ensures { λ r. ⌜ r ≡ interrupts stage ins ⌝ }
+{
+    let waits = is_waiting(stage);
+    waits & (ins != table::AUTHENTICATE_SECOND)
 }
 
 pub fn wrong_length(ins: u8, d: &[u8]) -> bool
@@ -24,6 +55,8 @@ pub fn wrong_length(ins: u8, d: &[u8]) -> bool
     let n = d.len();
     let len = wire::le3_at(d, 4);
     let with_bytes = len as usize + 7;
+    let caps = wire::byte_at(d, 1);
+    let with_caps = caps as usize + 2;
     ((ins == table::READ_DATA) & (n != 7))
         | ((ins == table::WRITE_DATA) & (n != with_bytes))
         | ((ins == table::GET_VALUE) & (n != 1))
@@ -36,6 +69,14 @@ pub fn wrong_length(ins: u8, d: &[u8]) -> bool
         | ((ins == table::COMMIT_TRANSACTION) & (1 < n))
         | ((ins == table::ABORT_TRANSACTION) & (0 < n))
         | ((ins == table::GET_FILE_SETTINGS) & (n != 1))
+        | ((ins == table::AUTHENTICATE_FIRST) & ((n < 2) | (n != with_caps)))
+        | ((ins == table::AUTHENTICATE_SECOND) & (n != 32))
+}
+
+pub fn lacks_mac(maced: bool, x: &[u8]) -> bool
+    ensures { λ r. ⌜ r ≡ lacksMac maced (now (x .entry)) ⌝ }
+{
+    maced & (x.len() < modes::MAC_SIZE)
 }
 
 fn is_file(n: u8) -> bool
@@ -93,6 +134,41 @@ pub fn not_granted(ins: u8, access: Access) -> bool
     row.file & refused
 }
 
+// Nothing of the cryptography runs but for a second part of its right length.
+pub fn part_fails(keys: Keys, channel: Channel, ins: u8, d: &[u8]) -> bool
+    ensures { λ r. ⌜ r ≡ partFails keys channel ins (now (d .entry)) ⌝ }
+{
+    if ins != table::AUTHENTICATE_SECOND {
+        return false;
+    }
+    let stage = channel.stage;
+    let key = keys.at(stage.key());
+    let secret = channel.secret;
+    handshake::is_failed(key, secret, d)
+}
+
+// Nor but for a command that carries a MAC.
+pub fn is_forged(channel: Channel, maced: bool, ins: u8, x: &[u8]) -> bool
+    ensures { λ r. ⌜ r ≡ forged channel maced ins (now (x .entry)) ⌝ }
+{
+    if !maced {
+        return false;
+    }
+    let stage = channel.stage;
+    let secret = channel.secret;
+    let ti = channel.ti;
+    let right = sealing::seal(secret, ins, stage.counter(), ti, modes::plain(maced, x));
+    !wire::is_same(modes::mac(x), &right)
+}
+
+pub fn used_up(stage: Stage, ins: u8) -> bool
+    ensures { λ r. ⌜ r ≡ usedUp stage ins ⌝ }
+{
+    let base = is_base(ins);
+    let counter = stage.counter();
+    base & (counter == 0xFFFF)
+}
+
 pub fn switched_off(ins: u8, limited: bool, clears: bool) -> bool
     ensures { λ r. ⌜ r ≡ switchedOff ins limited clears ⌝ }
 {
@@ -105,10 +181,12 @@ pub fn bad_parameter(ins: u8, d: &[u8]) -> bool
     let amount = wire::le4_at(d, 1);
     let len = wire::le3_at(d, 4);
     let option = wire::byte_at(d, 0);
+    let caps = wire::byte_at(d, 2);
     (((ins == table::CREDIT) | (ins == table::DEBIT) | (ins == table::LIMITED_CREDIT))
         & ((amount == 0) | (0x80000000 <= amount)))
         | (((ins == table::WRITE_DATA) | (ins == table::WRITE_RECORD)) & (len == 0))
         | ((ins == table::COMMIT_TRANSACTION) & (option != 0))
+        | ((ins == table::AUTHENTICATE_FIRST) & ((4 < option) | (caps / 2 % 2 == 1)))
 }
 
 // Whether the command has an offset and a length.
@@ -158,6 +236,23 @@ pub fn is_outside(limits: Limits, purse: Purse, entries: u8, ins: u8, d: &[u8]) 
         return wire::is_outside(room, wire::le3_at(d, 1), wire::le3_at(d, 4));
     }
     amount_is_outside(limits, purse, ins, wire::le4_at(d, 1))
+}
+
+// The most bytes that a ReadData in MAC mode shows.
+const MACED_READ: usize = 248;
+
+pub fn is_long_read(maced: bool, ins: u8, d: &[u8]) -> bool
+    ensures { λ r. ⌜ r ≡ longRead maced ins (now (d .entry)) ⌝ }
+{
+    if ins != table::READ_DATA {
+        return false;
+    }
+    if !maced {
+        return false;
+    }
+    let from = wire::le3_at(d, 1);
+    let end = Files::end(wire::byte_at(d, 0), from, wire::le3_at(d, 4));
+    from as usize + MACED_READ < end
 }
 
 pub fn nothing_pending(ins: u8, value: bool, log: bool) -> bool

@@ -10,7 +10,10 @@ use lib.ListN.{length}
 use Rattle.tables.specs.Reasons.{Reason, NoReason}
 use Rattle.wire.specs.Bytes.{laid, word}
 use Rattle.limits.specs.Limits.{within}
-use Rattle.access.specs.declared.Session.the-variants.{Nobody}
+use Rattle.keys.specs.declared.Keys.{Keys}
+use Rattle.channel.specs.declared.Channel.{Channel}
+use Rattle.channel.specs.declared.Inputs.{Inputs}
+use Rattle.channel.specs.Channel.{isReal, isWaiting, bare, closed}
 use Rattle.frames.specs.Frame.{insOf, dataOf}
 use Rattle.settings.specs.declared.Settings.{Settings}
 use Rattle.commands.specs.Rows.{rowsOf, ok, statusOf}
@@ -31,23 +34,32 @@ pub record Kept (c : Card) : Type 0 where
   pub f1f : length (c .files .f1f) ≡ 32
   pub slots : length (c .log .slots) ≡ 64
   pub entry : length (c .log .entry) ≡ 16
+  pub secret : length (c .channel .secret) ≡ 16
+  pub ti : length (c .channel .ti) ≡ 4
+  pub caps : length (c .channel .caps) ≡ 6
 
 -- ---- demand 1: every byte string gets a reply, and a refusal leaves the card's holdings alone
 
--- 9100 and the statuses of the order of checks
+-- the accepted ones, 9100 and 91AF, and the statuses of the order of checks
 unfoldable pub statuses : List ℕ
-statuses = 0x9100 ∷ 0x6700 ∷ 0x6E00 ∷ 0x6A86 ∷ 0x911C ∷ 0x917E ∷ 0x91F0 ∷ 0x919D ∷ 0x91AE ∷ 0x919E ∷ 0x91BE ∷ 0x910C ∷ []
+statuses =
+    0x9100 ∷ 0x91AF ∷ 0x6700 ∷ 0x6E00 ∷ 0x6A86 ∷ 0x911C ∷ 0x91CA ∷ 0x917E ∷ 0x91F0 ∷ 0x919D ∷ 0x91AE ∷ 0x911E ∷ 0x919E ∷ 0x91BE ∷ 0x910C ∷ []
+
+-- any other status is a refusal
+abbrev pub Refusal : ℕ → Type 0
+Refusal status = (status ≡ 0x9100 → ⊥) × (status ≡ 0x91AF → ⊥)
 
 unfoldable pub among : ℕ → List ℕ → Bool
 among n [] = false
 among n (m ∷ ms) = eqb n m || among n ms
 
--- settings, data files, committed value, allowance and log as before; no session; nothing pending
+-- settings, keys, data files, committed value, allowance and log as before; no session, and no byte that one left; nothing pending
 pub record Untouched (before after : Card) : Type 0 where
   pub settings : after .settings ≡ before .settings
+  pub keys : after .keys ≡ before .keys
   pub files : after .files ≡ before .files
   pub books : booksOf (view after) ≡ booksOf (view before)
-  pub no-session : after .session ≡ Nobody
+  pub no-session : after .channel ≡ closed
   pub value-rests : after .purse .moved ≡ false
   pub pending-value : after .purse .pending ≡ after .purse .value
   pub pending-allowance : after .purse .left ≡ after .purse .allowance
@@ -65,7 +77,7 @@ pub record Replied (c : Card) (before after : List ℕ) (r : Reply) : Type 0 whe
   pub len : r .len ≡ length shown + 2
   pub room : r .len ≤ 258
   pub refusal : r .refusal ≡ 0
-  pub refused : (status ≡ ok → ⊥) → (shown ≡ []) × Untouched c (r .card)
+  pub refused : Refusal status → (shown ≡ []) × Untouched c (r .card)
 
 -- the method `command`, as its contract says, left this buffer and returned r
 pub record Demand1 (c : Card) (before after : List ℕ) (r : Reply) : Type 0 where
@@ -88,10 +100,10 @@ pub record FirstRow (rows : List Reason) (status : ℕ) : Type 0 where
   pub names : row .status ≡ status
 
 abbrev pub Accepts : Card → List ℕ → Type 0
-Accepts c f = (room : ℕ) → 258 ≤ room → commanded c f room ≡ laidInto c (accepted (view c) (insOf f) (dataOf f))
+Accepts c f = (u : Inputs) (room : ℕ) → 258 ≤ room → commanded c f u room ≡ laidInto c (accepted (view c) u (insOf f) (dataOf f))
 
 abbrev pub Refuses : Card → List ℕ → ℕ → Type 0
-Refuses c f status = (room : ℕ) → 258 ≤ room → commanded c f room ≡ laidInto c (refused (view c) status)
+Refuses c f status = (u : Inputs) (room : ℕ) → 258 ≤ room → commanded c f u room ≡ laidInto c (refused (view c) status)
 
 pub record Demand2 (c : Card) (f : List ℕ) : Type 0 where
   pub accepted : (statusOf (view c .core) f ≡ ok) ↔ NoReason (rowsFor c f)
@@ -99,34 +111,41 @@ pub record Demand2 (c : Card) (f : List ℕ) : Type 0 where
   pub accepts : Kept c → NoReason (rowsFor c f) → Accepts c f
   pub refuses : (status : ℕ) → Kept c → FirstRow (rowsFor c f) status → Refuses c f status
   -- one answer alone fits the contract
-  pub one : (before after after′ : List ℕ) (r r′ : Reply) → Answered (commanded c f (length before)) before after r
-      → Answered (commanded c f (length before)) before after′ r′ → (r ≡ r′) × (after ≡ after′)
+  pub one : (u : Inputs) (before after after′ : List ℕ) (r r′ : Reply) → Answered (commanded c f u (length before)) before after r
+      → Answered (commanded c f u (length before)) before after′ r′ → (r ≡ r′) × (after ≡ after′)
+
+-- zero bytes beside a stage that needs none
+abbrev pub Clean : Channel → Type 0
+Clean k = isReal (k .stage) ≡ false → isWaiting (k .stage) ≡ false → k ≡ bare (k .stage)
 
 -- an accepted personalisation: bench refusals 1 to 3 are not given
 abbrev pub Taken : Settings → ℤ → Type 0
 Taken s v = orderRefusal s v ≡ 0
 
 -- its card after a history
-abbrev pub reached : Settings → ℤ → List Event → Card
-reached s v es = run next (issued s v) es
+abbrev pub reached : Settings → Keys → ℤ → List Event → Card
+reached s ks v es = run next (issued s ks v) es
 
--- every reached card keeps the standing rules, so no event meets bench refusal 6, or any other
-pub record Standing (s : Settings) (v : ℤ) (es : List Event) : Type 0 where
-  pub keeps : Kept (reached s v es)
-  pub never : (e : Event) → outcome (reached s v es) e .refusal ≡ 0
+-- every reached card keeps the standing rules, so no event meets bench refusal 6, or any other; where no session is real and no
+-- first part waits, it holds no byte of one
+pub record Standing (s : Settings) (ks : Keys) (v : ℤ) (es : List Event) : Type 0 where
+  pub keeps : Kept (reached s ks v es)
+  pub never : (e : Event) → outcome (reached s ks v es) e .refusal ≡ 0
+  pub clean : Clean (reached s ks v es .channel)
 
 -- ---- demand 3: value, allowance and log are the books over the struck history
 
-pub record Demand3 (s : Settings) (v : ℤ) (es : List Event) : Type 0 where
-  pub books : booksOf (view (reached s v es)) ≡ booked v (traced bookLine (issued s v) es)
-  pub files : reached s v es .files ≡ filed (traced fileLine (issued s v) es)
-  pub settings : reached s v es .settings ≡ s
-  pub value-inside : within (s .limits) (reached s v es .purse .value) ≡ true
-  pub pending-inside : within (s .limits) (reached s v es .purse .pending) ≡ true
+pub record Demand3 (s : Settings) (ks : Keys) (v : ℤ) (es : List Event) : Type 0 where
+  pub books : booksOf (view (reached s ks v es)) ≡ booked v (traced bookLine (issued s ks v) es)
+  pub files : reached s ks v es .files ≡ filed (traced fileLine (issued s ks v) es)
+  pub settings : reached s ks v es .settings ≡ s
+  pub keys : reached s ks v es .keys ≡ ks
+  pub value-inside : within (s .limits) (reached s ks v es .purse .value) ≡ true
+  pub pending-inside : within (s .limits) (reached s ks v es .purse .pending) ≡ true
 
--- two cards of equal settings, data files and books, each just powered up, whatever else lies in them
+-- two cards of equal settings, keys, data files and books, each just powered up, whatever else lies in them
 abbrev pub EqualReplies : Type 0
-EqualReplies = (c d : Card) → Kept c → Kept d → c .settings ≡ d .settings → c .files ≡ d .files → booksOf (view c) ≡ booksOf (view d)
+EqualReplies = (c d : Card) → Kept c → Kept d → c .settings ≡ d .settings → c .keys ≡ d .keys → c .files ≡ d .files → booksOf (view c) ≡ booksOf (view d)
     → (es : List Event) → along next said (next c power) es ≡ along next said (next d power) es
 
 -- ---- the code: what the methods return along a run is what the definitions say
@@ -137,8 +156,8 @@ Unrefused [] = Unit {0}
 Unrefused (x ∷ xs) = (x .refusal ≡ 0) × Unrefused xs
 
 -- calls of the methods led from the personalised card to d, with the history es, and ss was seen of its events
-pub record InCode (s : Settings) (v : ℤ) (es : List Event) (ss : List Said) (d : Card) : Type 0 where
+pub record InCode (s : Settings) (ks : Keys) (v : ℤ) (es : List Event) (ss : List Said) (d : Card) : Type 0 where
   pub taken : Taken s v
-  pub card : d ≡ reached s v es
-  pub replies : ss ≡ along next said (issued s v) es
+  pub card : d ≡ reached s ks v es
+  pub replies : ss ≡ along next said (issued s ks v) es
   pub unrefused : Unrefused ss

@@ -4,7 +4,7 @@ use mathlib.Core.Bool.{true}
 use mathlib.Core.List.{List, [], _∷_, _++_}
 use mathlib.Core.Path.{_≡_, refl}
 use lib.IntN.{pos}
-use lib.ListN.{length}
+use lib.ListN.{length, replicate}
 use Rattle.tables.specs.Choice.{pick}
 use Rattle.wire.specs.Bytes.{laid, laidIn, outsideOf, le3, le4, word}
 use Rattle.datafiles.specs.Files as files
@@ -19,6 +19,10 @@ use Rattle.settings.specs.declared.Settings.{Settings}
 use Rattle.columns.specs.Table as table
 use Rattle.settings.specs.Settings as settings
 use Rattle.commands.specs.State as state
+use Rattle.keys.specs.Keys as keys
+use Rattle.channel.specs.declared.Inputs.{Inputs}
+use Rattle.channel.specs.Channel as channel
+use Rattle.commands.specs.Modes as modes
 use Rattle.commands.specs.Rows as rows
 use Rattle.effects.specs.Effects as effects
 use Rattle.replies.specs.Replies.{shownOf}
@@ -28,27 +32,34 @@ use Rattle.card.specs.Outcome as outcomes
 use Rattle.card.specs.Events as events
 use Rattle.demands.specs.Strike.{followed, strike, posts, part, through}
 use Rattle.demands.specs.Books.{sum, some, valueAfter, allowanceAfter, overwritten, entriesAfter, Books, booked}
-use Rattle.demands.specs.History.{Event, command, session, power, outcome, next, Said, said, run, along, bookLine, lineBy, traced}
+use Rattle.demands.specs.History.{Handed, Event, command, session, power, outcome, next, Said, said, run, along, bookLine, lineBy, traced}
 
 unfoldable pub program : Settings
 program = settings.alike 0xEEEE (record { lower = pos 0; upper = pos 1000 }) true
 
 -- the replies along a history of the program's card; to unfold this is to unfold all that a computed reply needs
 unfoldable pub replies : List Event → List Said
-unfolding pick laid laidIn outsideOf le3 le4 word files.sizeOf files.bytesOf files.zeros files.endOf files.shown files.written crossed within purse.resting purse.credited purse.debited purse.rebooked purse.settled purse.dropped rules.unequal journal.blank journal.joined journal.shown journal.freshOr journal.written journal.cleared journal.pushed journal.resting journal.settled journal.dropped log.cut log.view log.some log.put log.empty access.rightsSound access.sealed access.granting access.accessOf frame.wrongSize frame.wrongClass frame.wrongParameters frame.wrongFrame table.onFile table.namesFile table.isFile table.suits settings.rightsOf settings.accessTo settings.rightsBroken state.logPending rows.unknownCommand rows.lengthCases rows.unknownFile rows.otherKindOrNever rows.notGranted rows.switchedOff rows.parameterCases rows.ranged rows.roomOf rows.amountCases rows.outside rows.nothingPending rows.rowsOf rows.statusOf effects.purseAfter effects.journalAfter effects.filesAfter shownOf card.view card.put rules.brokenBy outcomes.replyOf outcomes.bench events.changed events.ended events.refused events.accepted events.played events.laidInto events.commanded events.withSession events.sessionChanged events.poweredUp events.issued outcome said along run settings.alike program
-replies es = along next said (events.issued program (pos 100)) es
+unfolding pick laid laidIn outsideOf le3 le4 word files.sizeOf files.bytesOf files.zeros files.endOf files.shown files.written crossed within purse.resting purse.credited purse.debited purse.rebooked purse.settled purse.dropped rules.unequal journal.blank journal.joined journal.shown journal.freshOr journal.written journal.cleared journal.pushed journal.resting journal.settled journal.dropped log.cut log.view log.some log.put log.empty access.rightsSound access.sealed access.granting access.accessOf frame.wrongSize frame.wrongClass frame.wrongParameters frame.wrongFrame table.onFile table.namesFile table.isFile table.suits settings.rightsOf settings.accessTo settings.rightsBroken state.logPending rows.unknownCommand rows.interrupts rows.lengthCases rows.lacksMac rows.unknownFile rows.otherKindOrNever rows.notGranted rows.partFails rows.forged rows.usedUp rows.switchedOff rows.parameterCases rows.ranged rows.roomOf rows.amountCases rows.outside rows.longRead rows.nothingPending rows.rowsOf rows.statusOf effects.purseAfter effects.journalAfter effects.filesAfter shownOf card.view card.put rules.brokenBy outcomes.replyOf outcomes.bench events.channelAfter events.changed events.shown events.macBehind events.acceptedStatus events.acceptedPlain events.ended events.refused events.accepted events.played events.laidInto events.commanded events.withSession events.sessionChanged events.poweredUp events.issued outcome said along run settings.alike keys.zeros channel.counted channel.bare modes.macedUnder modes.plainOf program
+replies es = along next said (events.issued program keys.zeros (pos 100)) es
 
 -- the books over such a history
 unfoldable pub books : List Event → Books
 unfolding replies followed strike posts part through sum some valueAfter allowanceAfter overwritten entriesAfter booked bookLine lineBy traced
-books es = booked (pos 100) (traced bookLine (events.issued program (pos 100)) es)
+books es = booked (pos 100) (traced bookLine (events.issued program keys.zeros (pos 100)) es)
+
+-- the program's bench inputs are zeros
+abbrev zeros : Inputs
+zeros = record { random = replicate 16 0; ti = replicate 4 0 }
+
+abbrev zeros-handed : Handed zeros
+zeros-handed = record { random = refl; ti = refl }
 
 -- the INS i without a data field, and with the data field d
 abbrev pub bare : ℕ → Event
-bare i = command (0x90 ∷ i ∷ 0 ∷ 0 ∷ 0 ∷ [])
+bare i = command (0x90 ∷ i ∷ 0 ∷ 0 ∷ 0 ∷ []) zeros zeros-handed
 
 abbrev pub sends : ℕ → List ℕ → Event
-sends i d = command (0x90 ∷ i ∷ 0 ∷ 0 ∷ length d ∷ d ++ (0 ∷ []))
+sends i d = command (0x90 ∷ i ∷ 0 ∷ 0 ∷ length d ∷ d ++ (0 ∷ [])) zeros zeros-handed
 
 abbrev says : List ℕ → Said
 says bytes = record { refusal = 0; bytes = bytes; len = length bytes }
@@ -109,7 +120,7 @@ sales =
     ∷ []
 
 -- no model that stops after its first transaction: 100 less 30, and 5 of them back
-pub second-transaction : run next (events.issued program (pos 100)) sales .purse .value ≡ pos 75
+pub second-transaction : run next (events.issued program keys.zeros (pos 100)) sales .purse .value ≡ pos 75
 unfolding replies sales
 second-transaction = refl
 

@@ -4,13 +4,16 @@ use mathlib.Core.Bool.{true}
 use mathlib.Core.List.{List, [], _∷_}
 use mathlib.Core.Path.{_≡_}
 use lib.Dec.{eqb}
+use lib.ListN.{length}
 use Rattle.tables.specs.Choice.{pick}
 use Rattle.access.specs.declared.Session.{Session}
 use Rattle.access.specs.Rights.{sessionSound}
 use Rattle.frames.specs.Frame.{insOf, dataOf, fileOf, offsetOf, bytesIn, amountOf}
 use Rattle.columns.specs.Table.{writeData, credit, debit, limitedCredit, writeRecord, clearRecordFile, commitTransaction, abortTransaction}
-use Rattle.commands.specs.State.{State}
-use Rattle.commands.specs.Rows.{ok, statusOf}
+use Rattle.channel.specs.declared.Inputs.{Inputs}
+use Rattle.commands.specs.State.{Core, State}
+use Rattle.commands.specs.Modes.{plainOf}
+use Rattle.commands.specs.Rows.{ok, macedIn, statusOf}
 use Rattle.card.specs.declared.Card.{Card}
 use Rattle.card.specs.View.{view}
 use Rattle.card.specs.Outcome.{Outcome, replyOf}
@@ -19,16 +22,21 @@ use Rattle.demands.specs.Strike.{Line, posted, closed, broken, idle}
 use Rattle.demands.specs.Books.{Op, paid-in, paid-out, rebooked, entered, cleared, Books}
 use Rattle.demands.specs.DataFiles.{Write}
 
+-- what the bench hands in with an event has the sizes that its type gives it
+pub record Handed (u : Inputs) : Type 0 where
+  pub random : length (u .random) ≡ 16
+  pub ti : length (u .ti) ≡ 4
+
 -- a bench refusal is no part of a history: a command comes with room for its reply, a session change names a key 0 to 4 or none
 pub data Event : Type 0 where
-  -- a frame: any bytes
-  command : List ℕ → Event
+  -- a frame, any bytes, with what the bench hands in
+  command : List ℕ → (u : Inputs) → Handed u → Event
   session : (k : Session) → sessionSound k ≡ true → Event
   power : Event
 
 -- what the definitions of demand 2 answer
 unfoldable pub outcome : Card → Event → Outcome
-outcome c (command f) = commanded c f 258
+outcome c (command f u handed) = commanded c f u 258
 outcome c (session k known) = sessionChanged c k
 outcome c power = poweredUp c
 
@@ -75,9 +83,13 @@ bookLine i d =
 unfoldable pub fileLine : ℕ → List ℕ → Line Write
 fileLine i d = pick (eqb i writeData) (posted (record { file = fileOf d; place = offsetOf d; bytes = bytesIn d })) idle
 
--- any event: a refused command and a power-up break off, a session change does not
+-- the data field of a frame without its MAC
+abbrev pub plainIn : Core → List ℕ → List ℕ
+plainIn c f = plainOf (macedIn c (insOf f) (dataOf f)) (dataOf f)
+
+-- any event: a refused command and a power-up break off, a session change does not, nor do the parts of an authentication
 unfoldable pub lineBy : {X : Type 0} → (ℕ → List ℕ → Line X) → State → Event → Line X
-lineBy acceptedLine s (command f) = pick (eqb (statusOf (s .core) f) ok) (acceptedLine (insOf f) (dataOf f)) broken
+lineBy acceptedLine s (command f u handed) = pick (eqb (statusOf (s .core) f) ok) (acceptedLine (insOf f) (plainIn (s .core) f)) broken
 lineBy acceptedLine s (session k known) = idle
 lineBy acceptedLine s power = broken
 

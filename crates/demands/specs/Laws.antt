@@ -10,3 +10,6 @@ pub mod Booked
 pub mod Filed
 pub mod FirstRow
 pub mod Issued
+pub mod Room
+pub mod Clean
+pub mod Framed

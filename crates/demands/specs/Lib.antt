@@ -4,6 +4,7 @@ pub mod DataFiles
 pub mod History
 pub mod Calls
 pub mod Demands
+pub mod Sessions
 pub mod Examples
 pub mod Laws
 pub mod Proofs

@@ -3,3 +3,6 @@ pub mod Demand1
 pub mod Demand2
 pub mod Demand3
 pub mod InCode
+pub mod LetIn
+pub mod WrongMac
+pub mod AsPlain

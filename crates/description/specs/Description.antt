@@ -11,38 +11,42 @@ use Rattle.datafiles.specs.Files.{sizeOf}
 use Rattle.logbook.specs.Journal.{entrySize, mostEntries}
 use Rattle.columns.specs.Table.{isData, value03}
 use Rattle.settings.specs.declared.Settings.{Settings}
-use Rattle.settings.specs.Settings.{rightsOf}
+use Rattle.settings.specs.Settings.{rightsOf, macFile}
 
 -- the first bytes of a number, as many as its field is wide
 abbrev pub figure : ℕ → ℕ → List ℕ
 figure width v = take width (four v)
 
--- file kind, option byte 00h and rights
-abbrev pub headOf : ℕ → ℕ → List ℕ
-headOf kind rights = kind ∷ 0x00 ∷ figure 2 rights
+-- file kind, option byte and rights
+abbrev pub headOf : ℕ → ℕ → ℕ → List ℕ
+headOf kind option rights = kind ∷ option ∷ figure 2 rights
 
 -- then the size for data
-abbrev pub ofData : ℕ → ℕ → List ℕ
-ofData rights size = headOf 0x00 rights ++ figure 3 size
+abbrev pub ofData : ℕ → ℕ → ℕ → List ℕ
+ofData option rights size = headOf 0x00 option rights ++ figure 3 size
 
 -- lower limit, upper limit, committed allowance and the byte of switches for value
-abbrev pub ofValue : ℕ → ℕ → ℕ → ℕ → ℕ → List ℕ
-ofValue rights lower upper allowance switches = headOf 0x02 rights ++ figure 4 lower ++ figure 4 upper ++ figure 4 allowance ++ figure 1 switches
+abbrev pub ofValue : ℕ → ℕ → ℕ → ℕ → ℕ → ℕ → List ℕ
+ofValue option rights lower upper allowance switches = headOf 0x02 option rights ++ figure 4 lower ++ figure 4 upper ++ figure 4 allowance ++ figure 1 switches
 
 -- entry size, largest and committed number of entries for the log
-abbrev pub ofLog : ℕ → ℕ → ℕ → ℕ → List ℕ
-ofLog rights size most entries = headOf 0x04 rights ++ figure 3 size ++ figure 3 most ++ figure 3 entries
+abbrev pub ofLog : ℕ → ℕ → ℕ → ℕ → ℕ → List ℕ
+ofLog option rights size most entries = headOf 0x04 option rights ++ figure 3 size ++ figure 3 most ++ figure 3 entries
 
 -- the switches: bit 0 LimitedCredit on, bit 1 free GetValue
 unfoldable pub switchesOf : Settings → ℕ
 switchesOf s = pick (s .limited) 1 0 + pick (s .free) 2 0
 
+-- the option byte: 01h for a file in MAC mode, else 00h
+unfoldable pub optionOf : Settings → ℕ → ℕ
+optionOf s n = pick (macFile s n) 0x01 0x00
+
 -- file n by its kind, with the committed allowance and the committed number of entries
 unfoldable pub described : Settings → ℕ → ℕ → ℕ → List ℕ
 described s allowance entries n =
-    pick (isData n) (ofData (rightsOf s n) (sizeOf n))
-    (pick (eqb n value03) (ofValue (rightsOf s n) (ofZ w32 (s .limits .lower)) (ofZ w32 (s .limits .upper)) allowance (switchesOf s))
-    (ofLog (rightsOf s n) entrySize mostEntries entries))
+    pick (isData n) (ofData (optionOf s n) (rightsOf s n) (sizeOf n))
+    (pick (eqb n value03) (ofValue (optionOf s n) (rightsOf s n) (ofZ w32 (s .limits .lower)) (ofZ w32 (s .limits .upper)) allowance (switchesOf s))
+    (ofLog (optionOf s n) (rightsOf s n) entrySize mostEntries entries))
 
 -- in a buffer of this room
 unfoldable pub describedIn : ℕ → Settings → ℕ → ℕ → ℕ → List ℕ

@@ -9,7 +9,7 @@ ghost use lib.ListN.{length};
 ghost use mir.Syntax.{w32};
 ghost use mir.Val.{ofZ};
 ghost use Rattle.wire.specs.Bytes.{laid, Shows};
-ghost use Rattle.description.specs.Description.{figure, headOf, ofValue, switchesOf, describedIn};
+ghost use Rattle.description.specs.Description.{figure, headOf, ofValue, switchesOf, optionOf, describedIn};
 
 // Lays the first width bytes of v from a place on.
 fn lay_figure(v: u32, width: usize, at: usize, reply: &mut [u8])
@@ -20,12 +20,12 @@ fn lay_figure(v: u32, width: usize, at: usize, reply: &mut [u8])
     wire::lay(reply, at, &bytes[0..width]);
 }
 
-// Lays kind, option byte 00h and rights over the front.
-fn lay_head(kind: u8, rights: u16, reply: &mut [u8])
+// Lays kind, option byte and rights over the front.
+fn lay_head(kind: u8, option: u8, rights: u16, reply: &mut [u8])
     requires { ⌜ 4 ≤ length (now reply) ⌝ }
-    ensures { λ r. ⌜ Shows (headOf kind rights) (now (reply .entry)) (now (reply .exit)) 4 ⌝ }
+    ensures { λ r. ⌜ Shows (headOf kind option rights) (now (reply .entry)) (now (reply .exit)) 4 ⌝ }
 {
-    wire::lay(reply, 0, &[kind, 0x00]);
+    wire::lay(reply, 0, &[kind, option]);
     lay_figure(rights as u32, 2, 2, reply);
 }
 
@@ -45,13 +45,29 @@ fn switches(settings: Settings) -> u8
     0
 }
 
+// 01h for a file in MAC mode, else 00h.
+fn option_of(settings: Settings, n: u8) -> u8
+    ensures { λ r. ⌜ r ≡ optionOf settings n ⌝ }
+{
+    if settings.has_mac(n) {
+        return 0x01;
+    }
+    0x00
+}
+
 // Lays the settings of the value file over the front of reply.
-fn show_value(settings: Settings, rights: u16, allowance: u32, reply: &mut [u8]) -> usize
+fn show_value(
+    settings: Settings,
+    option: u8,
+    rights: u16,
+    allowance: u32,
+    reply: &mut [u8],
+) -> usize
     requires { ⌜ 17 ≤ length (now reply) ⌝ }
-    ensures { λ r. ⌜ Shows (ofValue rights (ofZ w32 (settings .limits .lower)) (ofZ w32 (settings .limits .upper)) allowance (switchesOf settings)) (now (reply .entry)) (now (reply .exit)) r ⌝ }
+    ensures { λ r. ⌜ Shows (ofValue option rights (ofZ w32 (settings .limits .lower)) (ofZ w32 (settings .limits .upper)) allowance (switchesOf settings)) (now (reply .entry)) (now (reply .exit)) r ⌝ }
 {
     let limits = settings.limits;
-    lay_head(0x02, rights, reply);
+    lay_head(0x02, option, rights, reply);
     lay_figure(whole::bits(limits.lower), 4, 4, reply);
     lay_figure(whole::bits(limits.upper), 4, 8, reply);
     lay_figure(allowance, 4, 12, reply);
@@ -66,16 +82,17 @@ pub fn show(settings: Settings, allowance: u32, entries: u8, n: u8, reply: &mut 
     if reply.len() < 17 {
         return 0;
     }
+    let option = option_of(settings, n);
     let rights = settings.rights(n);
     if columns::is_data(n) {
-        lay_head(0x00, rights, reply);
+        lay_head(0x00, option, rights, reply);
         lay_figure(Files::size(n) as u32, 3, 4, reply);
         return 7;
     }
     if n == table::VALUE_03 {
-        return show_value(settings, rights, allowance, reply);
+        return show_value(settings, option, rights, allowance, reply);
     }
-    lay_head(0x04, rights, reply);
+    lay_head(0x04, option, rights, reply);
     lay_figure(Log::ENTRY as u32, 3, 4, reply);
     lay_figure(Log::MOST as u32, 3, 7, reply);
     lay_figure(entries as u32, 3, 10, reply);

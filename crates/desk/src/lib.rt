@@ -1,13 +1,17 @@
 // A desk: a card, and how lines are played on it.
 use card::Card;
+use channel::Inputs;
+use keys::Keys;
 use limits::Limits;
 use settings::Settings;
 ghost use mathlib.Core.Path.{_≡_};
 ghost use Rattle.desk.specs.Program.{programCard, programDesk};
 
-// A card on the desk, the length of the reply buffer lent to its commands, and whether lettered lines are taken.
+// A card on the desk, what the bench hands in with its events, the length of the reply buffer lent to its commands, and whether
+// lettered lines are taken.
 pub struct Desk {
     pub card: Card,
+    pub inputs: Inputs,
     pub room: usize,
     pub bench: bool,
 }
@@ -22,7 +26,7 @@ impl Desk {
             upper: 1000,
         };
         let settings = Settings::alike(0xEEEE, limits, true);
-        let reply = Card::personalise(settings, 100);
+        let reply = Card::personalise(settings, Keys::zeros(), 100);
         reply.card
     }
 
@@ -32,6 +36,10 @@ impl Desk {
     {
         Desk {
             card: Desk::program_card(),
+            inputs: Inputs {
+                random: [0; 16],
+                ti: [0; 4],
+            },
             room: Card::REPLY_ROOM,
             bench,
         }

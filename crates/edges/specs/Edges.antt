@@ -4,6 +4,7 @@ use mathlib.Core.Bool.{true}
 use mathlib.Core.List.{List, [], _∷_, map}
 use mathlib.Core.Path.{_≡_, refl}
 use lib.IntN.{ℤ, pos}
+use lib.ListN.{replicate}
 use Rattle.tables.specs.Choice.{pick}
 use Rattle.wire.specs.Bytes.{laid, laidIn, outsideOf, le3, le4, word}
 use Rattle.datafiles.specs.Files as files
@@ -17,14 +18,18 @@ use Rattle.settings.specs.declared.Settings.{Settings}
 use Rattle.columns.specs.Table.{onFile, namesFile, isFile, suits}
 use Rattle.settings.specs.Settings.{alike, rightsOf, accessTo, rightsBroken}
 use Rattle.commands.specs.State.{logPending}
-use Rattle.commands.specs.Rows.{unknownCommand, lengthCases, unknownFile, otherKindOrNever, notGranted, switchedOff, parameterCases, ranged, roomOf, amountCases, outside, nothingPending, rowsOf, statusOf}
+use Rattle.keys.specs.Keys as keys
+use Rattle.channel.specs.declared.Inputs.{Inputs}
+use Rattle.channel.specs.Channel.{counted, bare}
+use Rattle.commands.specs.Modes.{macedUnder, plainOf}
+use Rattle.commands.specs.Rows.{unknownCommand, interrupts, lengthCases, lacksMac, unknownFile, otherKindOrNever, notGranted, partFails, forged, usedUp, switchedOff, parameterCases, ranged, roomOf, amountCases, outside, longRead, nothingPending, rowsOf, statusOf}
 use Rattle.effects.specs.Effects.{purseAfter, journalAfter, filesAfter}
 use Rattle.replies.specs.Replies.{shownOf}
 use Rattle.card.specs.declared.Card.{Card}
 use Rattle.card.specs.View.{view, put}
 use Rattle.standing.specs.Rules.{unequal, brokenBy}
 use Rattle.card.specs.Outcome.{bench}
-use Rattle.card.specs.Events.{changed, ended, refused, accepted, played, laidInto, commanded, issued, blank, orderRefusal, personalised}
+use Rattle.card.specs.Events.{channelAfter, changed, shown, macBehind, acceptedStatus, acceptedPlain, ended, refused, accepted, played, laidInto, commanded, issued, blank, orderRefusal, personalised}
 
 -- frames sent one after the other to a new card, the replies, and the log's entries at the end
 pub record Edge : Type 0 where
@@ -115,20 +120,24 @@ edges =
     }
     ∷ []
 
+-- the program's bench inputs are zeros
+inputs : Inputs
+inputs = record { random = replicate 16 0; ti = replicate 4 0 }
+
 played-on : Card → List (List ℕ) → Seen
 played-on c [] = record { replies = []; entries = view c .core .journal .entries }
 played-on c (f ∷ fs) =
-    let o = commanded c f 258 in
+    let o = commanded c f inputs 258 in
     let r = played-on (o .card) fs in
     record { replies = o .out ∷ r .replies; entries = r .entries }
 
 -- the definitions' answer, from an accepted personalisation on
 pub answered : Edge → Seen
-answered e = played-on (personalised (settings (e .upper)) (e .value) .card) (e .sent)
+answered e = played-on (personalised (settings (e .upper)) keys.zeros (e .value) .card) (e .sent)
 
 pub expected : Edge → Seen
 expected e = record { replies = e .replies; entries = e .entries }
 
 pub edges-answered : map answered edges ≡ map expected edges
-unfolding answered expected edges played-on settings alike pick laid laidIn outsideOf le3 le4 word files.sizeOf files.bytesOf files.zeros files.endOf files.shown files.written crossed within purse.resting purse.credited purse.debited purse.rebooked purse.settled purse.dropped unequal journal.blank journal.joined journal.shown journal.freshOr journal.written journal.cleared journal.pushed journal.resting journal.settled journal.dropped log.cut log.view log.some log.put log.empty rightsSound sealed granting accessOf wrongSize wrongClass wrongParameters wrongFrame onFile namesFile isFile suits rightsOf accessTo logPending rightsBroken unknownCommand lengthCases unknownFile otherKindOrNever notGranted switchedOff parameterCases ranged roomOf amountCases outside nothingPending rowsOf statusOf purseAfter journalAfter filesAfter changed shownOf view put brokenBy bench ended refused accepted played laidInto commanded issued blank orderRefusal personalised
+unfolding answered expected edges inputs played-on settings alike keys.zeros counted bare macedUnder plainOf pick laid laidIn outsideOf le3 le4 word files.sizeOf files.bytesOf files.zeros files.endOf files.shown files.written crossed within purse.resting purse.credited purse.debited purse.rebooked purse.settled purse.dropped unequal journal.blank journal.joined journal.shown journal.freshOr journal.written journal.cleared journal.pushed journal.resting journal.settled journal.dropped log.cut log.view log.some log.put log.empty rightsSound sealed granting accessOf wrongSize wrongClass wrongParameters wrongFrame onFile namesFile isFile suits rightsOf accessTo logPending rightsBroken unknownCommand interrupts lengthCases lacksMac unknownFile otherKindOrNever notGranted partFails forged usedUp switchedOff parameterCases ranged roomOf amountCases outside longRead nothingPending rowsOf statusOf purseAfter journalAfter filesAfter channelAfter changed shown macBehind acceptedStatus acceptedPlain shownOf view put brokenBy bench ended refused accepted played laidInto commanded issued blank orderRefusal personalised
 edges-answered = refl

@@ -1,5 +1,5 @@
 -- The parts of a frame: CLA, INS, P1, P2, then Le alone, or Lc, the data field from byte 5 on, and Le.
-use Prim.Native.Nat.{ℕ, _+_, _-_}
+use Prim.Native.Nat.{ℕ, _+_, _-_, _/_, _%_}
 use mathlib.Core.Bool.{Bool, not, _&&_, _||_}
 use mathlib.Core.List.{List}
 use lib.Dec.{ltb, leb, eqb}
@@ -49,6 +49,16 @@ amountOf d = le4 d 1
 
 abbrev pub optionOf : List ℕ → ℕ
 optionOf d = getD d 0 0
+
+-- an authentication's first part: key number, LenCap, then PCDcap2, whose first byte's bit 1 is the LRP bit
+abbrev pub keyIn : List ℕ → ℕ
+keyIn d = getD d 0 0
+
+abbrev pub capsIn : List ℕ → ℕ
+capsIn d = getD d 1 0
+
+abbrev pub lrpIn : List ℕ → ℕ
+lrpIn d = getD d 2 0 / 2 % 2
 
 -- ---- places 1 to 4 of the order of checks
 

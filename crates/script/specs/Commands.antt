@@ -15,9 +15,8 @@ use Rattle.wire.specs.Laws.{length-part, length-laid}
 use Rattle.text.specs.Hex.{digitOf, allDigits, isHex, spelt, leading}
 use Rattle.text.specs.Laws.{leading-most, leading-part, leading-stop, length-spelt}
 use Rattle.text.specs.Adds.{front-laid}
-use Rattle.card.specs.Events.{commanded}
 use Rattle.desk.specs.declared.Desk.{Desk}
-use Rattle.script.specs.Lines.{lentRoom, replied, lineSaid}
+use Rattle.script.specs.Lines.{replied, commandedOn, lineSaid}
 use Rattle.script.specs.Run.{linesAfter}
 use Rattle.script.specs.RunLaws.{Lines, NoCommand, lines-end}
 
@@ -109,13 +108,13 @@ module _ (t : List ℕ) (at : ℕ) (frame after : List ℕ) (size : ℕ) (f : le
         let r : take (size - 0) after ≡ take 512 (leading (drop at t)) = rw (sub-zero size, shown .0, shown .1) (front-laid frame (take 512 (leading (drop at t)))) in
         ap spelt this ∙ (digits .1 ∙ (ap (λ n. take n (leading (drop at t))) (shown .1) ∙ (take-taken 512 (leading (drop at t)) ∙ sym r)))
 
-    pub command-said : (k : Desk) → lineSaid k (part t at (at + 2 * size)) ≡ replied k (commanded (k .card) (part after 0 size) (lentRoom (k .room)))
+    pub command-said : (k : Desk) → lineSaid k (part t at (at + 2 * size)) ≡ replied k (commandedOn k (part after 0 size))
     unfolding lineSaid
     command-said k =
         let l = line-size in
         passed _ _ (le-ltb 1024 (length (part t at (at + 2 * size))) (omega (arith, few .0)))
         ∙ (passed _ _ (ne-eqb (length (part t at (at + 2 * size))) 0 (λ z. omega (arith, some .0)))
-        ∙ (picked _ _ (ap isHex this ∙ digits .0) ∙ ap (λ b. replied k (commanded (k .card) b (lentRoom (k .room)))) frame-read))
+        ∙ (picked _ _ (ap isHex this ∙ digits .0) ∙ ap (λ b. replied k (commandedOn k b)) frame-read))
 
   -- they do not: the line up to the next LF is none
   module _ (y : (ltb 0 size && eqb (getD t (at + 2 * size) 0) 0x0A) ≡ false) (e : ℕ) (a : at ≤ e) (b : e < length t) (g : getD t e 0 ≡ 0x0A) where

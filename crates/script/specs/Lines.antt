@@ -1,12 +1,13 @@
 -- One line of a script: what it asks, and the line that answers it.
 use Prim.Native.Nat.{ℕ, _+_, _*_, _≤_}
-use mathlib.Core.Bool.{Bool, _&&_}
+use mathlib.Core.Bool.{Bool, _&&_, _||_}
 use mathlib.Core.List.{List, [], _∷_}
 use mathlib.Core.Path.{_≡_}
 use lib.Dec.{eqb, ltb}
 use lib.ListN.{length, getD, take}
 use Rattle.tables.specs.Choice.{pick}
 use Rattle.wire.specs.Bytes.{part}
+use Rattle.channel.specs.declared.Inputs.{Inputs}
 use Rattle.access.specs.declared.Session.the-variants.{Nobody, Key}
 use Rattle.card.specs.declared.Card.{Card}
 use Rattle.card.specs.declared.Reply.{Reply}
@@ -31,7 +32,7 @@ unfoldable pub textOf : Answer → Card → List ℕ
 textOf Unread c = 0x3F ∷ []
 textOf (Number n) c = numbered n
 textOf (Refusal n) c = refusalText n
-textOf Books c = booksText (c .purse) (c .log) (c .session)
+textOf Books c = booksText (c .purse) (c .log) (c .channel .stage)
 
 -- what the code tells of a line
 unfoldable pub saidOf : Told → Said
@@ -42,7 +43,7 @@ abbrev pub Plays : Outcome → List ℕ → Reply → Type 0
 Plays o after r = (r ≡ replyOf o) × (take (length (o .out)) after ≡ o .out) × (length (o .out) ≤ 512)
 
 unfoldable pub withCard : Desk → Card → Desk
-withCard k c = record { card = c; room = k .room; bench = k .bench }
+withCard k c = record { card = c; inputs = k .inputs; room = k .room; bench = k .bench }
 
 -- a line that does not reach the card: `?`
 unfoldable pub unread : Desk → Said
@@ -65,34 +66,52 @@ unfoldable pub lentRoom : ℕ → ℕ
 lentRoom room = pick (ltb 0x200 room) 0x200 room
 
 unfoldable pub lent : Desk → ℕ → Said
-lent k n = pick (ltb 0x200 n) (unread k) (record { desk = record { card = k .card; room = n; bench = k .bench }; out = numbered 0 })
+lent k n = pick (ltb 0x200 n) (unread k) (record { desk = record { card = k .card; inputs = k .inputs; room = n; bench = k .bench }; out = numbered 0 })
+
+-- ---- N: what the bench hands in with the events that follow
+
+-- sixteen bytes of random number, and behind them the transaction identifier
+unfoldable pub inputsIn : List ℕ → Inputs
+inputsIn b = record { random = part b 0 16; ti = part b 16 20 }
+
+unfoldable pub handed : Desk → Inputs → Said
+handed k u = record { desk = record { card = k .card; inputs = u; room = k .room; bench = k .bench }; out = numbered 0 }
 
 -- ---- B: the books
 
 unfoldable pub bookKept : Desk → Said
-bookKept k = record { desk = k; out = booksText (k .card .purse) (k .card .log) (k .card .session) }
+bookKept k = record { desk = k; out = booksText (k .card .purse) (k .card .log) (k .card .channel .stage) }
 
 -- ---- a line
+
+-- the digits of an order: up to the switches, or with keys and modes behind them
+abbrev pub isOrder : ℕ → Bool
+isOrder n = eqb n 46 || eqb n 208
 
 -- a letter with n characters behind it, which are digits or not, and the bytes that they spell
 unfoldable pub letteredBy : Desk → ℕ → ℕ → Bool → List ℕ → Said
 letteredBy k letter n digits b =
-    pick (eqb letter 0x50 && eqb n 46 && digits) (counted k (personalised (orderIn b .settings) (orderIn b .value)))
+    pick (eqb letter 0x50 && isOrder n && digits) (counted k (personalised (orderIn b .settings) (orderIn b .keys) (orderIn b .value)))
     (pick (eqb letter 0x53 && eqb n 0) (counted k (sessionChanged (k .card) Nobody))
     (pick (eqb letter 0x53 && eqb n 2 && digits) (counted k (sessionChanged (k .card) (Key (getD b 0 0))))
     (pick (eqb letter 0x52 && eqb n 4 && digits) (lent k (256 * getD b 0 0 + getD b 1 0))
+    (pick (eqb letter 0x4E && eqb n 40 && digits) (handed k (inputsIn b))
     (pick (eqb letter 0x42 && eqb n 0) (bookKept k)
-    (unread k)))))
+    (unread k))))))
 
 -- on the bench alone
 unfoldable pub lettered : Desk → ℕ → List ℕ → Said
 lettered k letter rest = letteredBy k letter (length rest) (isHex rest) (pick (isHex rest) (spelt rest) [])
+
+-- a command to the card on the desk
+abbrev pub commandedOn : Desk → List ℕ → Outcome
+commandedOn k f = commanded (k .card) f (k .inputs) (lentRoom (k .room))
 
 -- more than 1,024 characters; none: a power-up; digits: a command; else a letter's line on the bench
 unfoldable pub lineSaid : Desk → List ℕ → Said
 lineSaid k line =
     pick (ltb 1024 (length line)) (unread k)
     (pick (eqb (length line) 0) (powered k)
-    (pick (isHex line) (replied k (commanded (k .card) (spelt line) (lentRoom (k .room))))
+    (pick (isHex line) (replied k (commandedOn k (spelt line)))
     (pick (k .bench) (lettered k (getD line 0 0) (part line 1 (length line)))
     (unread k))))

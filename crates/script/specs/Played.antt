@@ -12,9 +12,8 @@ use Rattle.text.specs.Shown.{inRoom, Adds}
 use Rattle.answers.specs.Answers.{replyText, replyLine}
 use Rattle.card.specs.declared.Reply.{Reply}
 use Rattle.card.specs.Outcome.{Outcome, replyOf}
-use Rattle.card.specs.Events.{commanded}
 use Rattle.desk.specs.declared.Desk.{Desk}
-use Rattle.script.specs.Lines.{Said, Plays, withCard, lentRoom, replied, lineSaid}
+use Rattle.script.specs.Lines.{Said, Plays, withCard, replied, commandedOn, lineSaid}
 use Rattle.script.specs.Run.{linesAfter, went, Goes}
 use Rattle.script.specs.RunLaws.{Lines}
 use Rattle.script.specs.Laws.{reply-bytes}
@@ -29,22 +28,22 @@ module _ (k : Desk) (l : List ℕ) (o : Outcome) (r : Reply) (after : List ℕ) 
       let m : r .refusal ≡ o .refusal = ap (λ (x : Reply). x .refusal) (p .0) in
       ap (λ (x : Said). x .out) e ∙ rw (b, m) refl
 
-  desk : record { card = r .card; room = k .room; bench = k .bench } ≡ lineSaid k l .desk
-  unfolding replied withCard replyOf
-  desk = ap (λ (x : Reply). record { card = x .card; room = k .room; bench = k .bench }) (p .0) ∙ sym (ap (λ (x : Said). x .desk) e)
+  desk : withCard k (r .card) ≡ lineSaid k l .desk
+  unfolding replied replyOf
+  desk = ap (λ (x : Reply). withCard k (x .card)) (p .0) ∙ sym (ap (λ (x : Said). x .desk) e)
 
 -- the digits of a run's line were spelt into a frame and end with LF; the card's reply to the frame is r, in the buffer back
 module _ (k₀ : Desk) (t b : List ℕ) (k : Desk) (at n : ℕ) (out : List ℕ) (s : Sofar k₀ t b k at n out)
     (frame after : List ℕ) (size : ℕ) (f : length frame ≡ 512) (h : at < length t) (w : Shows (take (length frame) (leading (part t at (length t)))) frame after size)
     (y : (ltb 0 size && eqb (getD t (at + 2 * size) 0) 0x0A) ≡ true)
-    (back : List ℕ) (r : Reply) (p : Plays (commanded (k .card) (part after 0 size) (lentRoom (k .room))) back r) where
+    (back : List ℕ) (r : Reply) (p : Plays (commandedOn k (part after 0 size)) back r) where
   line : Lines t at (at + 2 * size)
   line = command-line t at frame after size f h w y
 
   inside : at + 2 * size < length t
   inside = command-inside t at frame after size f h w y
 
-  command : lineSaid k (part t at (at + 2 * size)) ≡ replied k (commanded (k .card) (part after 0 size) (lentRoom (k .room)))
+  command : lineSaid k (part t at (at + 2 * size)) ≡ replied k (commandedOn k (part after 0 size))
   command = command-said t at frame after size f h w y k
 
   module _ (x : List ℕ) (m : ℕ) (a : Adds (inRoom (length out - n) (replyLine (r .refusal) (part back 0 (r .len)))) out n x m) where
@@ -55,5 +54,5 @@ module _ (k₀ : Desk) (t b : List ℕ) (k : Desk) (at n : ℕ) (out : List ℕ)
     pub played-full : m ≡ n → Goes (went k₀ (linesAfter [] t) (length b)) b x (record { desk = k; read = at; written = n })
     played-full q = sofar-full k₀ t b k at n out s _ line (omega arith) inside x m said q
 
-    pub played-next : (m ≡ n → ⊥) → Sofar k₀ t b (record { card = r .card; room = k .room; bench = k .bench }) (at + 2 * size + 1) m x
+    pub played-next : (m ≡ n → ⊥) → Sofar k₀ t b (withCard k (r .card)) (at + 2 * size + 1) m x
     played-next q = sofar-as k₀ t b _ _ _ m x (desk k (part t at (at + 2 * size)) _ r back command p) (sofar-next k₀ t b k at n out s _ line (omega arith) inside x m said q)

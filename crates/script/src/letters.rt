@@ -4,22 +4,25 @@ use super::MOST_ROOM;
 use super::Told;
 use access::Session;
 use card::Card;
+use channel::Inputs;
 use desk::Desk;
 use orders::Order;
 ghost use mathlib.Core.Path.{_≡_};
+ghost use mathlib.Core.Bool.{true};
 ghost use Prim.Native.Nat.{_+_, _*_, _≤_};
 ghost use lib.ListN.{length, getD};
 ghost use Rattle.card.specs.Events.{personalised, sessionChanged};
 ghost use Rattle.orders.specs.Order.{orderIn};
-ghost use Rattle.script.specs.Lines.{saidOf, counted, lent, letteredBy, lettered};
+ghost use Rattle.script.specs.Lines.{saidOf, counted, lent, inputsIn, handed, letteredBy, lettered};
 
 // P: personalise.
 fn personalise(mut desk: Desk, b: &[u8]) -> Told
-    ensures { λ r. ⌜ saidOf r ≡ counted desk (personalised (orderIn (now (b .entry)) .settings) (orderIn (now (b .entry)) .value)) ⌝ }
+    ensures { λ r. ⌜ saidOf r ≡ counted desk (personalised (orderIn (now (b .entry)) .settings) (orderIn (now (b .entry)) .keys) (orderIn (now (b .entry)) .value)) ⌝ }
 {
     let order = Order::read(b);
     let settings = order.settings;
-    let made = Card::personalise(settings, order.value);
+    let keys = order.keys;
+    let made = Card::personalise(settings, keys, order.value);
     let next = made.card;
     desk.card = next;
     Told {
@@ -68,11 +71,29 @@ fn length_in(b: &[u8]) -> usize
     256 * (high as usize) + low as usize
 }
 
+// N: what the bench hands in.
+fn hand_in(mut desk: Desk, b: &[u8]) -> Told
+    requires { ⌜ length (now b) ≡ 20 ⌝ }
+    ensures { λ r. ⌜ saidOf r ≡ handed desk (inputsIn (now (b .entry))) ⌝ }
+{
+    let mut random = [0u8; 16];
+    wire::lay(&mut random, 0, &b[0..16]);
+    let mut ti = [0u8; 4];
+    wire::lay(&mut ti, 0, &b[16..20]);
+    let inputs = Inputs { random, ti };
+    desk.inputs = inputs;
+    Told {
+        desk,
+        answer: Answer::Number(0),
+    }
+}
+
 // A letter with n characters behind it, and the bytes b that they spell.
 fn say_spelt(desk: Desk, letter: u8, n: usize, digits: bool, b: &[u8]) -> Told
+    requires { ⌜ (digits ≡ true → n ≡ 2 * length (now b)) ⌝ }
     ensures { λ r. ⌜ saidOf r ≡ letteredBy desk letter n digits (now (b .entry)) ⌝ }
 {
-    if (letter == b'P') & (n == 46) & digits {
+    if (letter == b'P') & ((n == 46) | (n == 208)) & digits {
         return personalise(desk, b);
     }
     if (letter == b'S') & (n == 0) {
@@ -83,6 +104,9 @@ fn say_spelt(desk: Desk, letter: u8, n: usize, digits: bool, b: &[u8]) -> Told
     }
     if (letter == b'R') & (n == 4) & digits {
         return lend(desk, length_in(b));
+    }
+    if (letter == b'N') & (n == 40) & digits {
+        return hand_in(desk, b);
     }
     if (letter == b'B') & (n == 0) {
         return Told {

@@ -107,8 +107,9 @@ fn put_text(answer: Answer, card: Card, text: &mut [u8]) -> usize
             return put_number_but_0(n, text);
         }
         Answer::Books => {
-            let session = card.session;
-            return books::put_books(card.purse, card.log, session, text);
+            let channel = card.channel;
+            let stage = channel.stage;
+            return books::put_books(card.purse, card.log, stage, text);
         }
     }
 }
@@ -177,7 +178,8 @@ pub fn run(mut desk: Desk, text: &[u8], out: &mut [u8]) -> Went
         if (0 < size) & (wire::byte_at(text, behind) == b'\n') {
             let lent = lent_room(desk.room);
             let card = desk.card;
-            let played = card.command(&frame[0..size], &mut reply[0..lent]);
+            let inputs = desk.inputs;
+            let played = card.command(&frame[0..size], inputs, &mut reply[0..lent]);
             let len = played.len;
             let put = answers::put_line(played.refusal, &reply[0..len], n, out);
             if put == n {

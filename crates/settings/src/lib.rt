@@ -6,7 +6,7 @@ use columns::table;
 use datafiles::Files;
 use limits::Limits;
 ghost use mathlib.Core.Path.{_≡_};
-ghost use Rattle.settings.specs.Settings.{alike, rightsOf, accessTo, rightsBroken};
+ghost use Rattle.settings.specs.Settings.{alike, rightsOf, macFile, accessTo, rightsBroken};
 
 pub struct Settings {
     // The rights of files 00h, 04h, 1Fh, 03h and 01h.
@@ -15,6 +15,12 @@ pub struct Settings {
     pub r1f: u16,
     pub r03: u16,
     pub r01: u16,
+    // Which of them are in MAC mode; the others are plain.
+    pub m00: bool,
+    pub m04: bool,
+    pub m1f: bool,
+    pub m03: bool,
+    pub m01: bool,
     pub limits: Limits,
     // LimitedCredit is on; GetValue is free.
     pub limited: bool,
@@ -22,7 +28,7 @@ pub struct Settings {
 }
 
 impl Settings {
-    // The same rights for every file, and GetValue not free.
+    // The same rights for every file, plain modes, and GetValue not free.
     pub fn alike(rights: u16, limits: Limits, limited: bool) -> Settings
         ensures { λ r. ⌜ r ≡ alike rights limits limited ⌝ }
     {
@@ -32,6 +38,11 @@ impl Settings {
             r1f: rights,
             r03: rights,
             r01: rights,
+            m00: false,
+            m04: false,
+            m1f: false,
+            m03: false,
+            m01: false,
             limits,
             limited,
             free: false,
@@ -55,6 +66,17 @@ impl Settings {
             return self.r03;
         }
         self.r01
+    }
+
+    // Whether n is the number of a file in MAC mode.
+    pub fn has_mac(self, n: u8) -> bool
+        ensures { λ r. ⌜ r ≡ macFile self n ⌝ }
+    {
+        ((n == Files::DATA_00) & self.m00)
+            | ((n == Files::DATA_04) & self.m04)
+            | ((n == Files::DATA_1F) & self.m1f)
+            | ((n == table::VALUE_03) & self.m03)
+            | ((n == table::LOG_01) & self.m01)
     }
 
     // Whether the command may be used on file n under this session.

@@ -12,8 +12,8 @@ use Rattle.purse.specs.declared.Purse.{Purse}
 use Rattle.purse.specs.Purse.{largest}
 use Rattle.logbook.specs.declared.Log.{Log}
 use Rattle.logbook.specs.Journal.{mostEntries}
-use Rattle.access.specs.declared.Session.{Session}
-use Rattle.access.specs.Rights.{sessionSound}
+use Rattle.channel.specs.declared.Stage.{Stage}
+use Rattle.channel.specs.Channel.{stageSound}
 use Rattle.settings.specs.declared.Settings.{Settings}
 use Rattle.settings.specs.Settings.{rightsBroken}
 use Rattle.standing.specs.Rules.{unequal, rules, brokenBy}
@@ -42,28 +42,28 @@ unfolding logBroken
 log-few l e = ltb-false _ _ (or-no _ _ e .0)
 
 -- of a card
-abbrev pub parts : Settings → Purse → Log → Session → List Bool
-parts s p l k =
+abbrev pub parts : Settings → Purse → Log → Stage → List Bool
+parts s p l g =
     rightsBroken s
     ∷ crossed (s .limits)
-    ∷ not (sessionSound k)
+    ∷ not (stageSound g)
     ∷ logBroken l
     ∷ valueBroken (s .limits) p (l .adds || l .clears)
     ∷ []
 
-module _ (s : Settings) (p : Purse) (l : Log) (k : Session) where
-  pub parted : brokenBy s p l k ≡ false → None (parts s p l k)
+module _ (s : Settings) (p : Purse) (l : Log) (g : Stage) where
+  pub parted : brokenBy s p l g ≡ false → None (parts s p l g)
   unfolding brokenBy logBroken valueBroken
   parted e =
-      let (rights, (limits, (value, (pending, (few, (session, (allowance, (left, (apart, (debits, (noted, (equal, t)))))))))))) = none (rules s p l k) e in
+      let (rights, (limits, (value, (pending, (few, (session, (allowance, (left, (apart, (debits, (noted, (equal, t)))))))))))) = none (rules s p l g) e in
       (rights, (limits, (session, (or-none _ _ few apart, (no-any (valueRules (s .limits) p (l .adds || l .clears)) (value, (pending, (allowance, (left, (debits, (noted, (equal, tt))))))), tt)))))
 
-  pub joined : None (parts s p l k) → brokenBy s p l k ≡ false
+  pub joined : None (parts s p l g) → brokenBy s p l g ≡ false
   unfolding brokenBy logBroken valueBroken
   joined (rights, (limits, (session, (log, (figures, t))))) =
       let (few, apart) = or-no _ _ log in
       let (value, (pending, (allowance, (left, (debits, (noted, (equal, u))))))) = none (valueRules (s .limits) p (l .adds || l .clears)) figures in
-      no-any (rules s p l k) (rights, (limits, (value, (pending, (few, (session, (allowance, (left, (apart, (debits, (noted, (equal, tt))))))))))))
+      no-any (rules s p l g) (rights, (limits, (value, (pending, (few, (session, (allowance, (left, (apart, (debits, (noted, (equal, tt))))))))))))
 
-  pub by-parts : any (parts s p l k) ≡ brokenBy s p l k
-  by-parts = fail-alike _ _ (λ e. joined (none (parts s p l k) e)) (λ e. no-any (parts s p l k) (parted e))
+  pub by-parts : any (parts s p l g) ≡ brokenBy s p l g
+  by-parts = fail-alike _ _ (λ e. joined (none (parts s p l g) e)) (λ e. no-any (parts s p l g) (parted e))

@@ -11,8 +11,8 @@ use Rattle.purse.specs.declared.Purse.{Purse}
 use Rattle.purse.specs.Purse.{largest}
 use Rattle.logbook.specs.declared.Log.{Log}
 use Rattle.logbook.specs.Journal.{mostEntries}
-use Rattle.access.specs.declared.Session.{Session}
-use Rattle.access.specs.Rights.{sessionSound}
+use Rattle.channel.specs.declared.Stage.{Stage}
+use Rattle.channel.specs.Channel.{stageSound}
 use Rattle.settings.specs.declared.Settings.{Settings}
 use Rattle.settings.specs.Settings.{rightsBroken}
 
@@ -30,14 +30,14 @@ unequal p =
     ∷ [])
 
 -- in the paper's order, those behind bench refusals 1 to 3 first; each line says that one rule is broken
-abbrev pub rules : Settings → Purse → Log → Session → List Bool
-rules s p l k =
+abbrev pub rules : Settings → Purse → Log → Stage → List Bool
+rules s p l g =
     rightsBroken s
     ∷ crossed (s .limits)
     ∷ not (within (s .limits) (p .value))
     ∷ not (within (s .limits) (p .pending))
     ∷ ltb mostEntries (l .count)
-    ∷ not (sessionSound k)
+    ∷ not (stageSound g)
     ∷ ltb largest (p .allowance)
     ∷ ltb (p .allowance) (p .left)
     ∷ (l .adds && l .clears)
@@ -47,5 +47,5 @@ rules s p l k =
     ∷ []
 
 -- a card of these parts breaks a standing rule
-unfoldable pub brokenBy : Settings → Purse → Log → Session → Bool
-brokenBy s p l k = any (rules s p l k)
+unfoldable pub brokenBy : Settings → Purse → Log → Stage → Bool
+brokenBy s p l g = any (rules s p l g)

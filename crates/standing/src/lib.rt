@@ -1,5 +1,5 @@
 // The standing rules, which every card keeps.
-use access::Session;
+use channel::Stage;
 use limits::Limits;
 use logbook::Log;
 use purse::Purse;
@@ -36,13 +36,13 @@ fn log_breaks(log: Log) -> bool
 }
 
 // Whether a card of these parts breaks a standing rule.
-pub fn breaks(settings: Settings, purse: Purse, log: Log, session: Session) -> bool
-    ensures { λ r. ⌜ r ≡ brokenBy settings purse log session ⌝ }
+pub fn breaks(settings: Settings, purse: Purse, log: Log, stage: Stage) -> bool
+    ensures { λ r. ⌜ r ≡ brokenBy settings purse log stage ⌝ }
 {
     let limits = settings.limits;
     let rights = settings.has_wrong_rights();
     let crossed = limits.are_crossed();
-    let known = session.is_sound();
+    let known = stage.is_sound();
     let in_log = log_breaks(log);
     let in_value = value_breaks(purse, limits, log.adds | log.clears);
     rights | crossed | !known | in_log | in_value

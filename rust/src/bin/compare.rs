@@ -4,7 +4,9 @@
 
 use card_reference::bench;
 use card_reference::child;
-use card_reference::scripts::{join, Script, Writer};
+use card_reference::frames::{join, Script};
+use card_reference::scripts::{Writer, ENDS};
+use card_reference::terminal::{resealed, with_seals, SealedLine};
 use std::ffi::OsString;
 use std::io;
 use std::process::ExitCode;
@@ -20,39 +22,49 @@ Generates scripts of bench lines, runs PROGRAM on each as a new child process
 answer line, its LF included, with the reference model's. PROGRAM may be an
 emulator with the real program among its arguments.
 
+First come scripts of all sorts of lines, then some that play a session of
+AuthenticateEV2First to the end of its command counter, each with another end.
+
 Options:
-  --events N   run at least N events: commands, session changes and power-ups
-               (personalisations, R, B and ? lines don't count); 1000000 if not
-               given
+  --events N   run at least N events in the first: commands, session changes and
+               power-ups (personalisations, R, N, B and ? lines don't count);
+               1000000 if not given
+  --ends N     run so many of the others, some 65,550 events each; 16 if not
+               given, which is one for each end
   --seed S     the seed of the scripts, a decimal number; 1 if not given
-  --lines L    lines of a script, about; 4000 if not given
+  --lines L    lines of one of the first scripts, about; 4000 if not given
   --stop       stop at the first script with a difference
-  --script S   write the script of this number (from 1) to standard output and
-               run nothing
+  --script S   write the first script of this number (from 1) to standard
+               output and run nothing
+  --end S      the same for one of the others
   --help       this text
 
 Prints the numbers of events and of differing answer lines to standard output,
-and the first difference shrunk to a short script. Progress goes to standard
-error. Exit status: 0 if no answer differs and every child ended with status 0,
+and the first difference shrunk to a short script, with MACs and second parts
+made anew where lines before them went. Progress goes to standard error. Exit status: 0 if no answer differs and every child ended with status 0,
 1 if not, 2 if the comparison could not be made.
 ";
 
 struct Options {
+    ends: u64,
     events: u64,
     seed: u64,
     lines: usize,
     stop: bool,
     script: Option<u64>,
+    end: Option<u64>,
     program: Vec<OsString>,
 }
 
 fn parse(arguments: impl Iterator<Item = OsString>) -> Result<Option<Options>, String> {
     let mut options = Options {
+        ends: ENDS,
         events: 1_000_000,
         seed: 1,
         lines: 4000,
         stop: false,
         script: None,
+        end: None,
         program: Vec::new(),
     };
     let mut arguments = arguments;
@@ -69,10 +81,12 @@ fn parse(arguments: impl Iterator<Item = OsString>) -> Result<Option<Options>, S
         };
         match name.as_str() {
             "--help" | "-h" => return Ok(None),
+            "--ends" => options.ends = number()?,
             "--events" => options.events = number()?,
             "--seed" => options.seed = number()?,
             "--lines" => options.lines = number()?.max(1) as usize,
-            "--script" => options.script = Some(number()?),
+            "--script" => options.script = Some(number()?.max(1)),
+            "--end" => options.end = Some(number()?.max(1)),
             "--stop" => options.stop = true,
             "--" => {
                 options.program = arguments.collect();
@@ -81,7 +95,7 @@ fn parse(arguments: impl Iterator<Item = OsString>) -> Result<Option<Options>, S
             _ => return Err(format!("unknown option {name}")),
         }
     }
-    if options.program.is_empty() && options.script.is_none() {
+    if options.program.is_empty() && options.script.or(options.end).is_none() {
         return Err("no program given after --".to_owned());
     }
     Ok(Some(options))
@@ -117,50 +131,84 @@ fn compare(program: &[OsString], script: &[u8]) -> io::Result<Outcome> {
     Ok(Outcome { differing, ended })
 }
 
-/// Makes a script with a difference short: cuts it after the first difference
-/// and takes out ever smaller pieces as long as a difference stays, to the
-/// point where no single line can go.
-fn shrink(program: &[OsString], script: &Script) -> io::Result<(Vec<Vec<u8>>, bool, u32)> {
-    let mut runs = 0;
-    let mut last_lf = true;
-    let mut first_difference = |lines: &[Vec<u8>], last_lf: bool| -> io::Result<Option<usize>> {
-        runs += 1;
-        let outcome = compare(program, &join(lines, last_lf))?;
-        Ok(outcome.differing.first().copied())
-    };
-    let mut lines = script.lines.clone();
-    match first_difference(&lines, true)? {
-        Some(at) => lines.truncate(at + 1),
-        // The difference has to do with the end of the script.
-        None => last_lf = false,
+/// How many lines are run at most to make a script short. Scripts of some
+/// thousand lines need far less.
+const SHRINK_LINES: usize = 10_000_000;
+
+/// A script that is being made short.
+struct Shrinking<'a> {
+    program: &'a [OsString],
+    last_lf: bool,
+    runs: u32,
+    lines_left: usize,
+}
+
+impl Shrinking<'_> {
+    /// Runs the lines, sealed anew: the place of the first difference. A child
+    /// that ended badly may owe answers to lines before the one it ended on, so
+    /// that the place is then the last one.
+    fn first_difference(&mut self, lines: &[SealedLine]) -> io::Result<Option<usize>> {
+        self.runs += 1;
+        self.lines_left = self.lines_left.saturating_sub(lines.len());
+        let outcome = compare(self.program, &join(&resealed(lines), self.last_lf))?;
+        let first = outcome.differing.first().copied();
+        Ok(match outcome.ended {
+            Some(_) => first.and(lines.len().checked_sub(1)),
+            None => first,
+        })
     }
-    let mut piece = (lines.len() / 2).max(1);
-    loop {
+
+    /// Takes pieces of this many lines out as long as a difference stays; false
+    /// if nothing could go.
+    fn take_out(&mut self, lines: &mut Vec<SealedLine>, piece: usize) -> io::Result<bool> {
         let mut shrunk = false;
         // From the end on, since what a difference needs is often near it.
         let mut end = lines.len();
-        while end > 0 {
+        while end > 0 && self.lines_left > 0 {
             let start = end.saturating_sub(piece);
             let mut candidate = lines[..start].to_vec();
             candidate.extend_from_slice(&lines[end..]);
             if !candidate.is_empty() {
-                if let Some(at) = first_difference(&candidate, last_lf)? {
-                    if last_lf {
+                if let Some(at) = self.first_difference(&candidate)? {
+                    if self.last_lf {
                         candidate.truncate(at + 1);
                     }
-                    lines = candidate;
+                    *lines = candidate;
                     shrunk = true;
                 }
             }
             end = start.min(lines.len());
         }
+        Ok(shrunk)
+    }
+}
+
+/// Makes a script with a difference short: cuts it after the first difference
+/// and takes out ever smaller pieces as long as a difference stays, to the
+/// point where no single line can go, or where it took too long.
+fn shrink(program: &[OsString], script: &Script) -> io::Result<(Vec<Vec<u8>>, bool, u32)> {
+    let mut shrinking = Shrinking {
+        program,
+        last_lf: true,
+        runs: 0,
+        lines_left: SHRINK_LINES,
+    };
+    let mut lines = with_seals(&script.lines);
+    match shrinking.first_difference(&lines)? {
+        Some(at) => lines.truncate(at + 1),
+        // The difference has to do with the end of the script.
+        None => shrinking.last_lf = false,
+    }
+    let mut piece = (lines.len() / 2).max(1);
+    while shrinking.lines_left > 0 {
+        let shrunk = shrinking.take_out(&mut lines, piece)?;
         if piece > 1 {
             piece = (piece / 2).max(1);
         } else if !shrunk {
             break;
         }
     }
-    Ok((lines, last_lf, runs))
+    Ok((resealed(&lines), shrinking.last_lf, shrinking.runs))
 }
 
 /// A line without its LF, with escapes for what is not plain, cut if long.
@@ -184,6 +232,9 @@ fn shown(answer: Option<&&[u8]>) -> String {
     }
 }
 
+/// The most lines of a script that are shown.
+const SHOWN_LINES: usize = 200;
+
 /// Shrinks the script and prints what is left of it, with both answers.
 fn report(program: &[OsString], script: &Script) -> io::Result<()> {
     eprintln!("compare: shrinking the first difference");
@@ -206,7 +257,12 @@ fn report(program: &[OsString], script: &Script) -> io::Result<()> {
         "first difference, {} lines after {runs} runs{note}:",
         lines.len()
     );
-    for at in 0..lines.len().max(theirs.len()) {
+    let end = lines.len().max(theirs.len());
+    let start = end.saturating_sub(SHOWN_LINES);
+    if start > 0 {
+        println!("  {start} lines that are not shown");
+    }
+    for at in start..end {
         match lines.get(at) {
             Some(line) => println!("  line      {}", escaped(line)),
             None => println!("  no line"),
@@ -221,63 +277,107 @@ fn report(program: &[OsString], script: &Script) -> io::Result<()> {
     Ok(())
 }
 
-fn run(options: &Options) -> io::Result<bool> {
-    let start = Instant::now();
-    let mut writer = Writer::new(options.seed);
-    let mut differing = 0;
-    let mut first = None;
-    let mut badly_ended = 0u64;
-    let mut scripts = 0u64;
-    while writer.tally.events() < options.events {
-        let script = writer.script(options.lines);
-        scripts += 1;
-        let outcome = compare(&options.program, &script.bytes())?;
-        differing += outcome.differing.len();
-        if let Some(how) = outcome.ended {
-            badly_ended += 1;
-            eprintln!("compare: script {scripts}: the program ended with {how}");
-        }
-        if first.is_none() {
-            if let Some(at) = outcome.differing.first() {
-                eprintln!(
-                    "compare: script {scripts}: first difference at line {}",
-                    at + 1
-                );
-                first = Some(script);
-            }
-        }
-        if scripts % 32 == 0 {
-            eprintln!(
-                "compare: {} of {} events, {differing} differing lines, {:.1} s",
-                writer.tally.events(),
-                options.events,
-                start.elapsed().as_secs_f64()
-            );
-        }
-        if options.stop && first.is_some() {
-            break;
-        }
-    }
-    println!("{}", writer.tally);
-    println!("scripts {scripts}, seed {}", options.seed);
-    if badly_ended > 0 {
-        println!("children that ended badly {badly_ended}");
-    }
-    println!("events {}", writer.tally.events());
-    println!("differing lines {differing}");
-    if let Some(script) = &first {
-        report(&options.program, script)?;
-    }
-    Ok(differing == 0 && badly_ended == 0)
+/// A comparison and what it has found so far.
+struct Comparison<'a> {
+    options: &'a Options,
+    start: Instant,
+    scripts: u64,
+    differing: usize,
+    badly_ended: u64,
+    /// The first script with a difference.
+    first: Option<Script>,
 }
 
-/// Writes the script of a number to standard output.
-fn write_script(options: &Options, number: u64) -> io::Result<()> {
+impl Comparison<'_> {
+    /// Runs one script; false if no other is to follow.
+    fn play(&mut self, script: Script, name: &str) -> io::Result<bool> {
+        self.scripts += 1;
+        let outcome = compare(&self.options.program, &script.bytes())?;
+        self.differing += outcome.differing.len();
+        if let Some(how) = outcome.ended {
+            self.badly_ended += 1;
+            eprintln!("compare: {name}: the program ended with {how}");
+        }
+        if let (None, Some(at)) = (&self.first, outcome.differing.first()) {
+            eprintln!("compare: {name}: first difference at line {}", at + 1);
+            self.first = Some(script);
+        }
+        Ok(!self.options.stop || self.first.is_none())
+    }
+
+    /// Runs all scripts, up to the first difference if that is asked for.
+    fn play_all(&mut self, writer: &mut Writer) -> io::Result<()> {
+        let mut number = 0;
+        while writer.tally.events() < self.options.events {
+            number += 1;
+            let script = writer.script(self.options.lines);
+            if !self.play(script, &format!("script {number}"))? {
+                return Ok(());
+            }
+            if number % 32 == 0 {
+                self.tell_progress(writer);
+            }
+        }
+        for end in 1..=self.options.ends {
+            let script = writer.end_script(self.options.seed, end);
+            if !self.play(script, &format!("end {end}"))? {
+                return Ok(());
+            }
+        }
+        self.tell_progress(writer);
+        Ok(())
+    }
+
+    fn tell_progress(&self, writer: &Writer) {
+        eprintln!(
+            "compare: {} events, {} differing lines, {:.1} s",
+            writer.tally.events(),
+            self.differing,
+            self.start.elapsed().as_secs_f64()
+        );
+    }
+}
+
+fn run(options: &Options) -> io::Result<bool> {
     let mut writer = Writer::new(options.seed);
+    let mut comparison = Comparison {
+        options,
+        start: Instant::now(),
+        scripts: 0,
+        differing: 0,
+        badly_ended: 0,
+        first: None,
+    };
+    comparison.play_all(&mut writer)?;
+    println!("{}", writer.tally);
+    println!("scripts {}, seed {}", comparison.scripts, options.seed);
+    if comparison.badly_ended > 0 {
+        println!("children that ended badly {}", comparison.badly_ended);
+    }
+    println!("events {}", writer.tally.events());
+    println!("differing lines {}", comparison.differing);
+    if let Some(script) = &comparison.first {
+        report(&options.program, script)?;
+    }
+    Ok(comparison.differing == 0 && comparison.badly_ended == 0)
+}
+
+/// The script of a number, and of those that play to the end of the counter if
+/// `is_end`.
+fn script(options: &Options, number: u64, is_end: bool) -> Script {
+    let mut writer = Writer::new(options.seed);
+    if is_end {
+        return writer.end_script(options.seed, number);
+    }
     for _ in 1..number {
         writer.script(options.lines);
     }
-    io::Write::write_all(&mut io::stdout(), &writer.script(options.lines).bytes())
+    writer.script(options.lines)
+}
+
+fn write_out(script: &Script) -> io::Result<bool> {
+    io::Write::write_all(&mut io::stdout(), &script.bytes())?;
+    Ok(true)
 }
 
 fn main() -> ExitCode {
@@ -292,9 +392,10 @@ fn main() -> ExitCode {
             return ExitCode::from(2);
         }
     };
-    let outcome = match options.script {
-        Some(number) => write_script(&options, number).map(|()| true),
-        None => run(&options),
+    let outcome = match (options.script, options.end) {
+        (Some(number), _) => write_out(&script(&options, number, false)),
+        (None, Some(number)) => write_out(&script(&options, number, true)),
+        (None, None) => run(&options),
     };
     match outcome {
         Ok(true) => ExitCode::SUCCESS,

@@ -20,9 +20,11 @@ is read.
 
   hex digits (even number, at least two)  a command; prints the reply, or !5
   an empty line                           a power-up; prints an empty line
-  P and 46 hex digits                     personalises; prints !0, !1, !2 or !3
+  P and 46 or 208 hex digits              personalises; prints !0, !1, !2 or !3
   S and 2 hex digits, or S alone          a session change; prints !0 or !4
   R and 4 hex digits (at most 0200)       length of the reply buffer; prints !0
+  N and 40 hex digits                     the card's random number and
+                                          transaction identifier; prints !0
   B                                       prints the books
   any other, or over 1,024 characters     prints ?
 ";

@@ -1,8 +1,8 @@
-//! Times two bench programs on the same four scripts.
+//! Times two bench programs on the same scripts.
 
 #![forbid(unsafe_code)]
 
-use card_reference::scripts::{speed_script, SpeedKind};
+use card_reference::timing::{speed_script, SpeedKind};
 use std::ffi::OsString;
 use std::fs::{self, File};
 use std::io;
@@ -20,16 +20,18 @@ after --plain the second one. Each may start with an emulator:
 
   speed --ours qemu-x86_64 ./bench --plain qemu-x86_64 ./refbench
 
-Four scripts are written: reads; values (value operations with commits); logs
-(log operations with commits); refusals (all thirteen places of the order of
-checks). Each program is run on each script as a child process, standard input
+Six scripts are written: reads; values (value operations with commits); logs
+(log operations with commits); refusals (thirteen places of the order of
+checks); mac-values (value operations with MACs); mac-reads (reads of 248 bytes
+with MACs). Each program is run on each script as a child process, standard input
 from the file. First the outputs of both are written to files and must be
 equal. Then follow the timed runs, the two programs by turns, standard output
 to /dev/null; the best time of each counts, from before the start of the child
 to its end, with nothing subtracted.
 
 Options, which come before --ours:
-  --lines N    lines of each script; 200000 if not given (give more where a
+  --lines N    lines of each script, but a tenth of it for mac-values and a
+               fiftieth for mac-reads; 200000 if not given (give more where a
                run takes only some hundredths of a second)
   --runs N     timed runs of each program on each script; 5 if not given
   --seed S     the seed of the scripts; 1 if not given
@@ -118,7 +120,7 @@ fn run(program: &[OsString], script: &Path, output: Stdio) -> io::Result<Duratio
 /// their outputs differ.
 fn time_kind(options: &Options, dir: &Path, kind: SpeedKind) -> io::Result<bool> {
     let script = dir.join(format!("{}.script", kind.name()));
-    let text = speed_script(kind, options.lines, options.seed);
+    let text = speed_script(kind, kind.lines(options.lines), options.seed);
     let events = text.lines.len();
     fs::write(&script, text.bytes())?;
 
@@ -130,7 +132,7 @@ fn time_kind(options: &Options, dir: &Path, kind: SpeedKind) -> io::Result<bool>
     }
     let answers = outputs[1].iter().filter(|&&byte| byte == b'\n').count();
     if outputs[0] != outputs[1] || answers != events {
-        println!("{:<9} the outputs of the two programs differ", kind.name());
+        println!("{:<10} the outputs of the two programs differ", kind.name());
         return Ok(false);
     }
 
@@ -142,7 +144,7 @@ fn time_kind(options: &Options, dir: &Path, kind: SpeedKind) -> io::Result<bool>
     }
     let rates = best.map(|time| events as f64 / time.as_secs_f64());
     println!(
-        "{:<9} {events:>8} {:>12.0} {:>12.0} {:>8.3}",
+        "{:<10} {events:>8} {:>12.0} {:>12.0} {:>8.3}",
         kind.name(),
         rates[0],
         rates[1],
@@ -161,7 +163,7 @@ fn time_all(options: &Options) -> io::Result<bool> {
     };
     fs::create_dir_all(&dir)?;
     println!(
-        "{:<9} {:>8} {:>12} {:>12} {:>8}",
+        "{:<10} {:>8} {:>12} {:>12} {:>8}",
         "script", "events", "ours/s", "plain/s", "ratio"
     );
     let mut equal = true;

@@ -13,15 +13,15 @@ add-decimal-requires c κs = search needs
 add-pending-requires : tie.Need-add-pending-requires
 add-pending-requires c κs = search needs
 
-add-key-requires : tie.Need-add-key-requires
-add-key-requires c κs = search needs
+add-stage-requires : tie.Need-add-stage-requires
+add-stage-requires c κs = search needs
 
 same-length : tie.Need-same-length
 same-length c = search needs
 
 returns : tie.Need-returns
 unfolding marksText
-returns c = adds-then _ _ _ _ (adds-then _ _ _ _ (c .before .before .before .before .before .before .before .before .before .before .add-decimal .ensures .0) (c .before .before .before .before .before .before .add-pending .ensures .0)) (c .before .before .add-key .ensures)
+returns c = adds-then _ _ _ _ (adds-then _ _ _ _ (c .before .before .before .before .before .before .before .before .before .before .add-decimal .ensures .0) (c .before .before .before .before .before .before .add-pending .ensures .0)) (c .before .before .add-stage .ensures)
 
 pub add-marks-spec : {M : Type 1} → statement M
 add-marks-spec =
@@ -30,6 +30,6 @@ add-marks-spec =
     cast-add-decimal
     add-decimal-requires
     add-pending-requires
-    add-key-requires
+    add-stage-requires
     same-length
     returns)

@@ -3,7 +3,6 @@ use Prim.Native.Nat.{ℕ}
 use mathlib.Core.Bool.{Bool, true, false}
 use mathlib.Core.List.{List, []}
 use mathlib.Core.Path.{_≡_, refl, _∙_, ap}
-use borrow.Author.Tests.{eqb-true}
 use lib.Dec.{eqb}
 use lib.IntN.{ℤ}
 use Rattle.tables.specs.Choice.{pick}
@@ -12,17 +11,17 @@ use Rattle.logbook.specs.Journal as journal
 use Rattle.frames.specs.Frame.{insOf, dataOf}
 use Rattle.columns.specs.Table.{commitTransaction}
 use Rattle.commands.specs.State.{State}
-use Rattle.commands.specs.Rows.{ok, statusOf, commandStatus}
-use Rattle.commands.specs.Laws.{command-ok}
+use Rattle.channel.specs.declared.Inputs.{Inputs}
+use Rattle.commands.specs.Rows.{ok, statusOf}
 use Rattle.effects.specs.Effects.{purseAfter, journalAfter}
-use Rattle.card.specs.Events.{changed, ended, refused, accepted, played, withSession}
+use Rattle.card.specs.Events.{changed, ended, refused, acceptedPlain, accepted, played, withSession}
 use Rattle.demands.specs.Strike.{Line, broken, strike, part, through}
 use Rattle.demands.specs.Books.{Op, valueAfter, Books, booked}
-use Rattle.demands.specs.History.{Event, command, session, power, run, along, bookLine, lineBy, booksOf}
+use Rattle.demands.specs.History.{Handed, Event, command, session, power, run, along, bookLine, plainIn, lineBy, booksOf}
 use Rattle.demands.specs.Laws.Names.{Other, by-name, purse-other, journal-other, book-other}
 use Rattle.demands.specs.Laws.Sound.{Sound, changed-sound, ended-sound, session-sound}
-use Rattle.demands.specs.Laws.Steps.{plays, moves}
-use Rattle.demands.specs.Laws.Inside.{entry-room}
+use Rattle.demands.specs.Laws.Steps.{accepted-cleared, plays, moves}
+use Rattle.demands.specs.Laws.Inside.{Cleared, entry-room}
 use Rattle.demands.specs.Laws.Induct.{Moved, from-rest, flat-part}
 use Rattle.demands.specs.Laws.Posting.{balance, value-sum, allowance-through, log-four}
 use Rattle.demands.specs.Laws.Opened.{OpenPurse, purse-rests, purse-in, purse-out, purse-rebooked, purse-entered, purse-cleared, allowance-booked, OpenLog, log-rests, log-in, log-out, log-rebooked, log-entered, log-cleared, log-booked}
@@ -37,25 +36,25 @@ Goes = Moved moves (lineBy bookLine) booksOf balance Open
 
 -- ---- an accepted command
 
-module _ (s : State) (tx : List Op) (d : List ℕ) (h : Open s tx) where
-  sound-after : (i : ℕ) → commandStatus (s .core) i d ≡ ok → Sound (changed s i d)
-  sound-after i e = changed-sound s i d (h .sound) e
+module _ (s : State) (u : Inputs) (handed : Handed u) (tx : List Op) (d : List ℕ) (h : Open s tx) where
+  sound-after : (i : ℕ) → Cleared (s .core) i d → Sound (changed s u i d)
+  sound-after i e = changed-sound s u i d handed (h .sound) e
 
-  commit-booked : booksOf (changed s commitTransaction d) ≡ balance (booksOf s) tx
+  commit-booked : booksOf (changed s u commitTransaction d) ≡ balance (booksOf s) tx
   unfolding changed purseAfter journalAfter pick purse.settled purse.resting balance
   commit-booked = λ i. record { value = h .value .value i; allowance = allowance-booked _ tx (h .value) i; log = log-booked _ tx (h .entries) i }
 
-  goes-other : (i : ℕ) → Other i → commandStatus (s .core) i d ≡ ok → Goes s tx (changed s i d) (bookLine i d)
+  goes-other : (i : ℕ) → Other i → Cleared (s .core) i d → Goes s tx (changed s u i d) (bookLine i d)
   unfolding changed
   goes-other i o e =
       let p = purse-other i d (s .core .purse) o in
       let j = journal-other i d (s .core .journal) o in
       rw (book-other i d o) (rw (p, j), record { sound = sound-after i e; value = rw p (h .value); entries = rw j (h .entries) })
 
-  goes-changed : (i : ℕ) → commandStatus (s .core) i d ≡ ok → Goes s tx (changed s i d) (bookLine i d)
+  goes-changed : (i : ℕ) → Cleared (s .core) i d → Goes s tx (changed s u i d) (bookLine i d)
   unfolding changed purseAfter journalAfter bookLine pick
   goes-changed =
-      by-name (λ i. commandStatus (s .core) i d ≡ ok → Goes s tx (changed s i d) (bookLine i d))
+      by-name (λ i. Cleared (s .core) i d → Goes s tx (changed s u i d) (bookLine i d))
       (λ e. (unfold purse.credited in refl, record { sound = sound-after _ e; value = purse-in _ tx (h .value) _; entries = log-in _ tx (h .entries) _ }))
       (λ e. (unfold purse.debited in refl, record { sound = sound-after _ e; value = purse-out _ tx (h .value) _; entries = log-out _ tx (h .entries) _ }))
       (λ e. (unfold purse.rebooked in refl, record { sound = sound-after _ e; value = purse-rebooked _ tx (h .value) _; entries = log-rebooked _ tx (h .entries) _ }))
@@ -71,18 +70,18 @@ goes-ended : (s : State) (tx : List Op) → Open s tx → Goes s tx (ended s) br
 unfolding ended purse.dropped journal.dropped
 goes-ended s tx h = (unfold purse.resting journal.resting in refl, record { sound = unfold ended purse.dropped journal.dropped in ended-sound s (h .sound); value = purse-rests _ _; entries = log-rests _ })
 
-goes-played : (s : State) (tx : List Op) → Open s tx → (f : List ℕ) → Goes s tx (played s f .state) (lineBy bookLine s (command f))
-unfolding played refused accepted lineBy
-goes-played s tx h f = by (eqb (statusOf (s .core) f) ok) refl
+goes-played : (s : State) (tx : List Op) → Open s tx → (f : List ℕ) (u : Inputs) (handed : Handed u) → Goes s tx (played s u f .state) (lineBy bookLine s (command f u handed))
+unfolding played refused accepted acceptedPlain lineBy
+goes-played s tx h f u handed = by (eqb (statusOf (s .core) f) ok) refl
   where
     by : (b : Bool) → eqb (statusOf (s .core) f) ok ≡ b
-        → Goes s tx (pick b (accepted s (insOf f) (dataOf f)) (refused s (statusOf (s .core) f)) .state) (pick b (bookLine (insOf f) (dataOf f)) broken)
-    by true e = unfold pick in goes-changed s tx (dataOf f) h (insOf f) (command-ok (s .core) f (eqb-true _ _ e))
+        → Goes s tx (pick b (accepted s u (insOf f) (dataOf f)) (refused s (statusOf (s .core) f)) .state) (pick b (bookLine (insOf f) (plainIn (s .core) f)) broken)
+    by true e = unfold pick in goes-changed s u handed tx (plainIn (s .core) f) h (insOf f) (accepted-cleared s f e)
     by false e = unfold pick in goes-ended s tx h
 
 goes : (s : State) (tx : List Op) → Open s tx → (e : Event) → Goes s tx (moves s e) (lineBy bookLine s e)
 unfolding plays
-goes s tx h (command f) = goes-played s tx h f
+goes s tx h (command f u handed) = goes-played s tx h f u handed
 goes s tx h (session k known) = unfold lineBy withSession in (refl, record { sound = session-sound s k (h .sound) known; value = h .value; entries = h .entries })
 goes s tx h power = unfold lineBy in goes-ended s tx h
 

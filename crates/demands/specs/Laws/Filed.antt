@@ -14,16 +14,16 @@ use Rattle.datafiles.specs.Files as files
 use Rattle.frames.specs.Frame.{insOf, dataOf, fileOf, offsetOf, bytesIn}
 use Rattle.columns.specs.Table.{writeData, isData}
 use Rattle.commands.specs.State.{State}
-use Rattle.commands.specs.Rows.{ok, statusOf, commandStatus}
-use Rattle.commands.specs.Laws.{command-ok}
+use Rattle.channel.specs.declared.Inputs.{Inputs}
+use Rattle.commands.specs.Rows.{ok, statusOf}
 use Rattle.effects.specs.Effects.{filesAfter}
-use Rattle.card.specs.Events.{changed, ended, refused, accepted, played, withSession}
+use Rattle.card.specs.Events.{changed, ended, refused, acceptedPlain, accepted, played, withSession}
 use Rattle.demands.specs.Strike.{Line, posted, broken, idle, posts, through}
 use Rattle.demands.specs.DataFiles.{Write, stored}
-use Rattle.demands.specs.History.{Event, command, session, power, run, along, fileLine, lineBy}
+use Rattle.demands.specs.History.{Handed, Event, command, session, power, run, along, fileLine, plainIn, lineBy}
 use Rattle.demands.specs.Laws.Sound.{Sound, Sized}
-use Rattle.demands.specs.Laws.Steps.{plays, moves, moves-sound}
-use Rattle.demands.specs.Laws.Inside.{write-room, write-file}
+use Rattle.demands.specs.Laws.Steps.{accepted-cleared, plays, moves, moves-sound}
+use Rattle.demands.specs.Laws.Inside.{Cleared, write-room}
 
 -- what holds of the three files' numbers
 by-file : (P : ℕ → Type 0) → P 0x00 → P 0x04 → P 0x1F → (n : ℕ) → isData n ≡ true → P n
@@ -59,32 +59,32 @@ module _ (f : Files) (h : Sized f) (at : ℕ) (x : List ℕ) where
 abbrev Stores : Files → Line Write → Files → Type 0
 Stores f l g = (ls : List (Line Write)) → through stored g (posts ls) ≡ through stored f (posts (l ∷ ls))
 
-stores-write : (s : State) → Sound s → (d : List ℕ) → commandStatus (s .core) writeData d ≡ ok
+stores-write : (s : State) → Sound s → (d : List ℕ) → Cleared (s .core) writeData d
     → Stores (s .files) (posted (record { file = fileOf d; place = offsetOf d; bytes = bytesIn d })) (files.written (s .files) (fileOf d) (offsetOf d) (bytesIn d))
 unfolding posts through
-stores-write s h d e ls = ap (λ (x : Files). through stored x (posts ls)) (written-stored (s .files) (h .files) (offsetOf d) (bytesIn d) (fileOf d) (write-file (s .core) d e) (write-room (s .core) d e))
+stores-write s h d e ls = ap (λ (x : Files). through stored x (posts ls)) (written-stored (s .files) (h .files) (offsetOf d) (bytesIn d) (fileOf d) (e .file refl) (write-room (s .core) d e))
 
-stores-changed : (s : State) → Sound s → (i : ℕ) (d : List ℕ) → commandStatus (s .core) i d ≡ ok → Stores (s .files) (fileLine i d) (filesAfter i d (s .files))
+stores-changed : (s : State) → Sound s → (i : ℕ) (d : List ℕ) → Cleared (s .core) i d → Stores (s .files) (fileLine i d) (filesAfter i d (s .files))
 unfolding fileLine filesAfter
 stores-changed s h i d e = by (eqb i writeData) refl
   where
     by : (b : Bool) → eqb i writeData ≡ b
         → Stores (s .files) (pick b (posted (record { file = fileOf d; place = offsetOf d; bytes = bytesIn d })) idle) (pick b (files.written (s .files) (fileOf d) (offsetOf d) (bytesIn d)) (s .files))
-    by true q = unfold pick in stores-write s h d (subst (λ (k : ℕ). commandStatus (s .core) k d ≡ ok) (eqb-true i writeData q) e)
+    by true q = unfold pick in stores-write s h d (subst (λ (k : ℕ). Cleared (s .core) k d) (eqb-true i writeData q) e)
     by false q = unfold pick posts through in λ ls. refl
 
-stores-played : (s : State) → Sound s → (f : List ℕ) → Stores (s .files) (lineBy fileLine s (command f)) (played s f .state .files)
-unfolding played refused accepted lineBy ended changed
-stores-played s h f = by (eqb (statusOf (s .core) f) ok) refl
+stores-played : (s : State) → Sound s → (f : List ℕ) (u : Inputs) (handed : Handed u) → Stores (s .files) (lineBy fileLine s (command f u handed)) (played s u f .state .files)
+unfolding played refused accepted acceptedPlain lineBy ended changed
+stores-played s h f u handed = by (eqb (statusOf (s .core) f) ok) refl
   where
     by : (b : Bool) → eqb (statusOf (s .core) f) ok ≡ b
-        → Stores (s .files) (pick b (fileLine (insOf f) (dataOf f)) broken) (pick b (accepted s (insOf f) (dataOf f)) (refused s (statusOf (s .core) f)) .state .files)
-    by true e = unfold pick in stores-changed s h (insOf f) (dataOf f) (command-ok (s .core) f (eqb-true _ _ e))
+        → Stores (s .files) (pick b (fileLine (insOf f) (plainIn (s .core) f)) broken) (pick b (accepted s u (insOf f) (dataOf f)) (refused s (statusOf (s .core) f)) .state .files)
+    by true e = unfold pick in stores-changed s h (insOf f) (plainIn (s .core) f) (accepted-cleared s f e)
     by false e = unfold pick posts in λ ls. refl
 
 stores : (s : State) → Sound s → (e : Event) → Stores (s .files) (lineBy fileLine s e) (moves s e .files)
 unfolding plays
-stores s h (command f) = stores-played s h f
+stores s h (command f u handed) = stores-played s h f u handed
 stores s h (session k known) = unfold lineBy withSession posts in λ ls. refl
 stores s h power = unfold lineBy ended posts in λ ls. refl
 

@@ -9,10 +9,6 @@ use Rattle.tables.specs.Choice.{picked, passed, pick-both, and-yes}
 use Rattle.tables.specs.Reasons.{Reason, first, NoReason, refusals}
 use Rattle.demands.specs.Demands.{FirstRow, among}
 
-pub none-first : (rows : List Reason) (ok : ℕ) → NoReason rows → first rows ok ≡ ok
-none-first [] ok n = refl
-none-first (r ∷ rs) ok (n, ns) = passed _ _ n ∙ none-first rs ok ns
-
 pub first-found : (rows : List Reason) (ok s : ℕ) → first rows ok ≡ s → (s ≡ ok → ⊥) → FirstRow rows s
 first-found [] ok s e n = absurd (n (sym e))
 first-found (r ∷ rs) ok s e n = by (r .applies) refl (λ h. first-found rs ok s h n)

@@ -1,53 +1,96 @@
--- An accepted write has room: in the new entry, or in its data file.
-use Prim.Native.Nat.{ℕ, _+_, _≤_}
+-- What is known of an accepted command's data field, its MAC taken off: an accepted write has room, in the new entry or in its data file.
+use Prim.Native.Nat.{ℕ, _+_, _-_, _≤_, _<_}
 use mathlib.Core.Bool.{Bool, true, false, not, _||_}
 use mathlib.Core.List.{List}
-use mathlib.Core.Path.{_≡_, refl}
+use mathlib.Core.Path.{_≡_, refl, sym, subst, _∙_}
 use native.Mathlib.Omega.{arith}
-use borrow.Author.Tests.{not-false, eqb-true, ltb-false}
-use lib.Dec.{eqb, leb}
-use lib.ListN.{length}
-use Rattle.tables.specs.Choice.{or-no, none}
+use borrow.Author.Tests.{not-false, eqb-true, ltb-false, le-leb}
+use lib.Dec.{eqb, leb, ltb}
+use lib.ListN.{length, getD, length-take}
+use lib.Seq.{getD-take}
+use Rattle.tables.specs.Choice.{pick, or-no, none}
 use Rattle.wire.specs.Bytes.{outsideOf}
 use Rattle.wire.specs.Laws.{length-part}
 use Rattle.datafiles.specs.Files.{sizeOf}
 use Rattle.logbook.specs.Journal.{entrySize}
-use Rattle.frames.specs.Frame.{fileOf, offsetOf, lengthOf, bytesIn}
-use Rattle.columns.specs.Table.{writeData, writeRecord, isData, onFile, suits}
-use Rattle.settings.specs.Settings.{accessTo}
+use Rattle.frames.specs.Frame.{fileOf, offsetOf, lengthOf, bytesIn, keyIn}
+use Rattle.columns.specs.Table.{writeData, writeRecord, authenticateFirst, authenticateSecond, isData, onFile, suits}
 use Rattle.commands.specs.State.{Core}
-use Rattle.commands.specs.Rows.{lengthCases, wrongLength, otherKindOrNever, rowsOf, ok, commandStatus}
-use Rattle.commands.specs.Laws.{command-clear, inside, write-inside, entry-inside}
+use Rattle.commands.specs.Modes.{accessFor, macSize, plainOf}
+use Rattle.commands.specs.Rows.{lengthCases, wrongLength, otherKindOrNever, switchedOff, parameterCases, badParameter, outside, macedIn, rowsOf, ok, commandStatus}
+use Rattle.commands.specs.Laws.{command-clear, inside, long-enough, second-length, write-inside, entry-inside}
 
--- a write's length field is the number of bytes sent, and these lie inside a room that its range is not outside of
-room : (size : ℕ) (d : List ℕ) → not (eqb (length d) (lengthOf d + 7)) ≡ false → outsideOf size (offsetOf d) (lengthOf d) ≡ false → offsetOf d + length (bytesIn d) ≤ size
+-- of the INS i and the data field d
+pub record Cleared (c : Core) (i : ℕ) (d : List ℕ) : Type 0 where
+  pub inside : outside (c .settings .limits) (c .purse) (length (c .journal .entries)) i d ≡ false
+  pub long : wrongLength i d ≡ false
+  pub on : switchedOff i (c .settings .limited) (c .journal .clears) ≡ false
+  pub sound : badParameter i d ≡ false
+  pub file : i ≡ writeData → isData (fileOf d) ≡ true
+
+-- ---- from the status
+
+-- the first byte stays where the MAC comes off
+file-plain : (m : Bool) (x : List ℕ) → 0 < length (plainOf m x) → fileOf (plainOf m x) ≡ fileOf x
+unfolding plainOf pick
+file-plain false x h = refl
+file-plain true x h = getD-take (length x - macSize) x 0 0 (omega (arith, length-take (length x - macSize) x))
+
+pub or-false-false : (a : Bool) → ((a || false) || false) ≡ true → a ≡ true
+or-false-false true e = refl
+or-false-false false e = e
+
+-- a write's length field is the number of bytes sent
+write-long : (d : List ℕ) → wrongLength writeData d ≡ false → length d ≡ lengthOf d + 7
+unfolding lengthCases
+write-long d w = let n : not (eqb (length d) (lengthOf d + 7)) ≡ false = search (none (lengthCases writeData d) w) in eqb-true _ _ (not-false _ n)
+
+module _ (c : Core) (i : ℕ) (x : List ℕ) (e : commandStatus c i x ≡ ok) where
+  abbrev plain : List ℕ
+  plain = plainOf (macedIn c i x) x
+
+  write-file : i ≡ writeData → isData (fileOf plain) ≡ true
+  unfolding rowsOf otherKindOrNever onFile suits
+  write-file q =
+      let k : otherKindOrNever i (fileOf x) (accessFor (c .settings) (c .channel .stage) i x) ≡ false = command-clear c i x e .1 .1 .1 .1 .0 in
+      let w : otherKindOrNever writeData (fileOf x) (accessFor (c .settings) (c .channel .stage) i x) ≡ false = subst (λ (j : ℕ). otherKindOrNever j (fileOf x) (accessFor (c .settings) (c .channel .stage) i x) ≡ false) q k in
+      let t : suits writeData (fileOf x) ≡ true = not-false _ (or-no (not (suits writeData (fileOf x))) _ w .0) in
+      let l = write-long plain (subst (λ (j : ℕ). wrongLength j plain ≡ false) q (long-enough c i x e .0)) in
+      subst (λ (n : ℕ). isData n ≡ true) (sym (file-plain (macedIn c i x) x (omega arith))) (or-false-false _ t)
+
+  pub cleared : Cleared c i plain
+  unfolding rowsOf
+  cleared =
+      let n = command-clear c i x e in
+      record {
+        inside = inside c i x e .0;
+        long = long-enough c i x e .0;
+        on = n .1 .1 .1 .1 .1 .1 .1 .0;
+        sound = n .1 .1 .1 .1 .1 .1 .1 .1 .0;
+        file = write-file;
+      }
+
+-- ---- what it says of each command
+
+-- a write's bytes lie inside a room that its range is not outside of
+room : (size : ℕ) (d : List ℕ) → length d ≡ lengthOf d + 7 → outsideOf size (offsetOf d) (lengthOf d) ≡ false → offsetOf d + length (bytesIn d) ≤ size
 unfolding outsideOf
-room size d n o =
-    let q = eqb-true (length d) (lengthOf d + 7) (not-false _ n) in
+room size d q o =
     let l = length-part d 7 (length d) (omega arith) in
     let h = ltb-false size (offsetOf d + lengthOf d) (or-no (leb size (offsetOf d)) _ o .1) in
     omega arith
 
-or-false-false : (a : Bool) → ((a || false) || false) ≡ true → a ≡ true
-or-false-false true e = refl
-or-false-false false e = e
-
 module _ (c : Core) (d : List ℕ) where
-  pub entry-room : commandStatus c writeRecord d ≡ ok → offsetOf d + length (bytesIn d) ≤ entrySize
-  unfolding rowsOf lengthCases
-  entry-room e =
-      let w : wrongLength writeRecord d ≡ false = search (command-clear c writeRecord d e) in
-      room _ d (search (none (lengthCases writeRecord d) w)) (entry-inside _ _ _ d (inside c writeRecord d e))
+  pub entry-room : Cleared c writeRecord d → offsetOf d + length (bytesIn d) ≤ entrySize
+  unfolding lengthCases
+  entry-room h =
+      let n : not (eqb (length d) (lengthOf d + 7)) ≡ false = search (none (lengthCases writeRecord d) (h .long)) in
+      room _ d (eqb-true _ _ (not-false _ n)) (entry-inside _ _ _ d (h .inside))
 
-  pub write-room : commandStatus c writeData d ≡ ok → offsetOf d + length (bytesIn d) ≤ sizeOf (fileOf d)
-  unfolding rowsOf lengthCases
-  write-room e =
-      let w : wrongLength writeData d ≡ false = search (command-clear c writeData d e) in
-      room _ d (search (none (lengthCases writeData d) w)) (write-inside _ _ _ d (inside c writeData d e))
+  pub write-room : Cleared c writeData d → offsetOf d + length (bytesIn d) ≤ sizeOf (fileOf d)
+  write-room h = room _ d (write-long d (h .long)) (write-inside _ _ _ d (h .inside))
 
-  pub write-file : commandStatus c writeData d ≡ ok → isData (fileOf d) ≡ true
-  unfolding rowsOf otherKindOrNever onFile suits
-  write-file e =
-      let w : otherKindOrNever writeData (fileOf d) (accessTo (c .settings) (c .session) writeData (fileOf d)) ≡ false = search (command-clear c writeData d e) in
-      let t : suits writeData (fileOf d) ≡ true = not-false _ (or-no (not (suits writeData (fileOf d))) _ w .0) in
-      or-false-false _ t
+  -- a first part names a key 0 to 4
+  pub key-named : Cleared c authenticateFirst d → leb (keyIn d) 4 ≡ true
+  unfolding parameterCases
+  key-named h = le-leb _ _ (ltb-false 4 (keyIn d) (or-no _ _ (none (parameterCases authenticateFirst d) (h .sound) .1 .1 .1 .0) .0))

@@ -13,6 +13,8 @@ use Rattle.standing.specs.Laws as rules-laws
 use Rattle.logbook.specs.View as log
 use Rattle.logbook.specs.Journal as journal
 use Rattle.logbook.specs.Laws as logbook
+use Rattle.keys.specs.declared.Keys.{Keys}
+use Rattle.channel.specs.Channel.{bare}
 use Rattle.settings.specs.declared.Settings.{Settings}
 use Rattle.settings.specs.Settings.{rightsBroken}
 use Rattle.card.specs.View.{view}
@@ -24,12 +26,12 @@ use Rattle.demands.specs.Laws.Steps.{sound-view}
 use Rattle.demands.specs.Laws.Opened.{purse-rests, log-rests}
 use Rattle.demands.specs.Laws.Booked.{Open}
 
-module _ (s : Settings) (v : ℤ) (e : Taken s v) where
+module _ (s : Settings) (ks : Keys) (v : ℤ) (e : Taken s v) where
   reasons : List Reason
   reasons = (1 when rightsBroken s) ∷ (2 when crossed (s .limits)) ∷ (3 when not (within (s .limits) v)) ∷ []
 
-  pub issued-kept : Kept (issued s v)
-  unfolding issued orderRefusal reasons logBroken log.empty files.zeros journal.blank
+  pub issued-kept : Kept (issued s ks v)
+  unfolding issued orderRefusal reasons logBroken log.empty files.zeros journal.blank bare
   issued-kept =
       let n = no-reason reasons 0 refl e in
       let figures = rules-laws.resting-sound (s .limits) v 0 false (not-false _ (n .1 .1 .0)) (omega arith) in
@@ -40,12 +42,15 @@ module _ (s : Settings) (v : ℤ) (e : Taken s v) where
         f1f = refl;
         slots = refl;
         entry = refl;
+        secret = refl;
+        ti = refl;
+        caps = refl;
       }
 
-  pub issued-open : Open (view (issued s v)) []
+  pub issued-open : Open (view (issued s ks v)) []
   unfolding view issued
-  issued-open = record { sound = sound-view (issued s v) issued-kept; value = purse-rests v 0; entries = rw logbook.view-empty (log-rests []) }
+  issued-open = record { sound = sound-view (issued s ks v) issued-kept; value = purse-rests v 0; entries = rw logbook.view-empty (log-rests []) }
 
-  pub issued-books : booksOf (view (issued s v)) ≡ record { value = v; allowance = 0; log = [] }
+  pub issued-books : booksOf (view (issued s ks v)) ≡ record { value = v; allowance = 0; log = [] }
   unfolding view issued purse.resting log.view log.empty log.cut
   issued-books = refl

@@ -2,10 +2,10 @@
 use Prim.Native.Nat.{ℕ, _+_}
 use mathlib.Core.Bool.{Bool, true, false, _&&_, or-true}
 use mathlib.Core.List.{List, [], _∷_}
-use mathlib.Core.Path.{_≡_, refl, _∙_}
-use borrow.Author.Tests.{not-false, leb-true}
+use mathlib.Core.Path.{_≡_, refl, subst, _∙_}
+use borrow.Author.Tests.{not-false, leb-true, eqb-true}
 use lib.Dec.{leb}
-use lib.ListN.{length}
+use lib.ListN.{length, drop}
 use Rattle.tables.specs.Choice.{pick, pick-both, pick-cases}
 use Rattle.wire.specs.Bytes.{laid, laidIn}
 use Rattle.wire.specs.Laws.{length-laid}
@@ -21,20 +21,39 @@ use Rattle.logbook.specs.View as log
 use Rattle.logbook.specs.Fit.{Fit, Sixteens}
 use Rattle.logbook.specs.FitLaws.{fit-written, fit-cleared, fit-settled, fit-dropped}
 use Rattle.access.specs.declared.Session.{Session}
+use Rattle.access.specs.declared.Session.the-variants.{Nobody, Key}
+use Rattle.wire.specs.Listed.{length-filled}
+use Rattle.channel.specs.declared.Stage.{Stage}
+use Rattle.channel.specs.declared.Stage.the-variants.{Closed, Bench, Waiting, Real}
+use Rattle.channel.specs.declared.Channel.{Channel}
+use Rattle.channel.specs.declared.Inputs.{Inputs}
+use Rattle.channel.specs.Channel.{stageOf, stageSound, stageKey, countedUp, counted, bare}
+use Rattle.cmac.specs.Laws.{length-cmac}
+use Rattle.handshake.specs.Handshake.{capsOf, macKey}
+use Rattle.authentication.specs.Authentication.{begun, opened}
 use Rattle.access.specs.Rights.{sessionSound}
-use Rattle.columns.specs.Table.{credit, debit, limitedCredit, writeRecord}
+use Rattle.columns.specs.Table.{writeRecord, authenticateFirst}
 use Rattle.settings.specs.Settings.{rightsBroken}
 use Rattle.commands.specs.State.{Core, State, logPending}
-use Rattle.commands.specs.Rows.{rowsOf, switchedOff, ok, commandStatus}
-use Rattle.commands.specs.Laws.{command-clear, inside, credit-inside, debit-inside, rebook-inside}
+use Rattle.commands.specs.Rows.{switchedOff}
+use Rattle.commands.specs.Laws.{credit-inside, debit-inside, rebook-inside}
 use Rattle.effects.specs.Effects.{purseAfter, journalAfter, filesAfter}
-use Rattle.card.specs.Events.{changed, ended, withSession}
+use Rattle.card.specs.Events.{channelAfter, changed, ended, withSession}
+use Rattle.demands.specs.History.{Handed}
 use Rattle.demands.specs.Laws.Names.{by-name, purse-other, journal-other}
+use Rattle.demands.specs.Laws.Inside.{Cleared, key-named}
 
 pub record Sized (f : Files) : Type 0 where
   pub f00 : length (f .f00) ≡ 256
   pub f04 : length (f .f04) ≡ 256
   pub f1f : length (f .f1f) ≡ 32
+
+-- the key of a session is 0 to 4, and its bytes have their sizes
+pub record Fitting (k : Channel) : Type 0 where
+  pub known : stageSound (k .stage) ≡ true
+  pub secret : length (k .secret) ≡ 16
+  pub ti : length (k .ti) ≡ 4
+  pub caps : length (k .caps) ≡ 6
 
 -- a new entry and a clear are never pending together
 abbrev pub both : Journal → Bool
@@ -43,7 +62,7 @@ both j = log.some (j .fresh) && j .clears
 pub record Sound (s : State) : Type 0 where
   pub rights : rightsBroken (s .core .settings) ≡ false
   pub limits : crossed (s .core .settings .limits) ≡ false
-  pub session : sessionSound (s .core .session) ≡ true
+  pub channel : Fitting (s .core .channel)
   pub figures : rules-laws.Sound (s .core .settings .limits) (s .core .purse) (logPending (s .core .journal))
   pub journal : Fit (s .core .journal)
   pub apart : both (s .core .journal) ≡ false
@@ -56,14 +75,14 @@ log-pends : {l : Limits} {p : Purse} {b : Bool} → rules-laws.Sound l p b → r
 log-pends {l} {p} h = record { value = h .value; pending = h .pending; allowance = h .allowance; left = h .left; debits = h .debits; noted = h .noted; equal = rw (or-true (p .moved)) }
 
 module _ (c : Core) (d : List ℕ) where
-  figures-kept : rules-laws.Sound (c .settings .limits) (c .purse) (logPending (c .journal)) → (i : ℕ) → commandStatus c i d ≡ ok
+  figures-kept : rules-laws.Sound (c .settings .limits) (c .purse) (logPending (c .journal)) → (i : ℕ) → Cleared c i d
       → rules-laws.Sound (c .settings .limits) (purseAfter i d (c .purse)) (logPending (journalAfter i d (c .journal)))
   unfolding purseAfter journalAfter pick logPending journal.written journal.cleared log.some
   figures-kept h =
-      by-name (λ i. commandStatus c i d ≡ ok → rules-laws.Sound (c .settings .limits) (purseAfter i d (c .purse)) (logPending (journalAfter i d (c .journal))))
-      (λ e. rules-laws.credited-sound _ h _ (credit-inside _ _ _ d (inside c credit d e)))
-      (λ e. rules-laws.debited-sound _ h _ (debit-inside _ _ _ d (inside c debit d e)))
-      (λ e. rules-laws.rebooked-sound _ h _ (not-false _ (rebook-inside _ _ _ d (inside c limitedCredit d e) .0)))
+      by-name (λ i. Cleared c i d → rules-laws.Sound (c .settings .limits) (purseAfter i d (c .purse)) (logPending (journalAfter i d (c .journal))))
+      (λ e. rules-laws.credited-sound _ h _ (credit-inside _ _ _ d (e .inside)))
+      (λ e. rules-laws.debited-sound _ h _ (debit-inside _ _ _ d (e .inside)))
+      (λ e. rules-laws.rebooked-sound _ h _ (not-false _ (rebook-inside _ _ _ d (e .inside) .0)))
       (λ e. log-pends h)
       (λ e. log-pends h)
       (λ e. rules-laws.settled-sound _ h)
@@ -76,16 +95,14 @@ module _ (c : Core) (d : List ℕ) where
       by-name (λ i. Fit (journalAfter i d (c .journal))) h h h (fit-written _ _ _ h) (fit-cleared _ h) (fit-settled _ h) (fit-dropped _ h)
       (λ i o. rw (journal-other i d (c .journal) o) h)
 
-  no-clear-pending : commandStatus c writeRecord d ≡ ok → c .journal .clears ≡ false
-  unfolding switchedOff rowsOf
-  no-clear-pending e =
-      let t : switchedOff writeRecord (c .settings .limited) (c .journal .clears) ≡ false = search (command-clear c writeRecord d e) in
-      t
+  no-clear-pending : Cleared c writeRecord d → c .journal .clears ≡ false
+  unfolding switchedOff
+  no-clear-pending e = e .on
 
-  apart-kept : both (c .journal) ≡ false → (i : ℕ) → commandStatus c i d ≡ ok → both (journalAfter i d (c .journal)) ≡ false
+  apart-kept : both (c .journal) ≡ false → (i : ℕ) → Cleared c i d → both (journalAfter i d (c .journal)) ≡ false
   unfolding journalAfter pick journal.written journal.cleared journal.settled journal.dropped journal.resting log.some
   apart-kept h =
-      by-name (λ i. commandStatus c i d ≡ ok → both (journalAfter i d (c .journal)) ≡ false)
+      by-name (λ i. Cleared c i d → both (journalAfter i d (c .journal)) ≡ false)
       (λ e. h) (λ e. h) (λ e. h) no-clear-pending (λ e. refl) (λ e. refl) (λ e. refl)
       (λ i o e. rw (journal-other i d (c .journal) o) h)
 
@@ -104,6 +121,37 @@ files-kept : (f : Files) (i : ℕ) (d : List ℕ) → Sized f → Sized (filesAf
 unfolding filesAfter
 files-kept f i d h = pick-both Sized _ _ _ (written-sized f _ _ _ h) h
 
+-- ---- the channel
+
+pub bare-fitting : (g : Stage) → stageSound g ≡ true → Fitting (bare g)
+unfolding bare
+bare-fitting g e = record { known = e; secret = refl; ti = refl; caps = refl }
+
+bench-sound : (k : Session) → sessionSound k ≡ true → stageSound (stageOf k) ≡ true
+bench-sound Nobody e = refl
+bench-sound (Key k) e = e
+
+key-sound : (g : Stage) → stageSound g ≡ true → leb (stageKey g) 4 ≡ true
+key-sound Closed e = refl
+key-sound (Bench k) e = refl
+key-sound (Waiting k) e = e
+key-sound (Real k n) e = e
+
+counted-sound : (g : Stage) → stageSound g ≡ true → stageSound (countedUp g) ≡ true
+counted-sound Closed e = e
+counted-sound (Bench k) e = e
+counted-sound (Waiting k) e = e
+counted-sound (Real k n) e = e
+
+channel-kept : (c : Core) (u : Inputs) (i : ℕ) (d : List ℕ) → Handed u → Fitting (c .channel) → Cleared c i d → Fitting (channelAfter (c .keys) u i d (c .channel))
+unfolding channelAfter
+channel-kept c u i d handed h e =
+    pick-cases Fitting _ _ _
+    (λ t. unfold begun capsOf in record { known = key-named c d (subst (λ (j : ℕ). Cleared c j d) (eqb-true i authenticateFirst t) e); secret = handed .random; ti = handed .ti; caps = length-filled 6 (drop 2 d) })
+    (λ _. pick-cases Fitting _ _ _
+    (λ t. unfold opened macKey in record { known = key-sound (c .channel .stage) (h .known); secret = length-cmac _ _; ti = h .ti; caps = refl })
+    (λ _. unfold counted in record { known = counted-sound (c .channel .stage) (h .known); secret = h .secret; ti = h .ti; caps = h .caps }))
+
 -- ---- the new entry, or e where there is none
 
 pub fresh-sized : (e : List ℕ) (fs : List (List ℕ)) → length e ≡ 16 → Sixteens fs → length (journal.freshOr e fs) ≡ 16
@@ -113,13 +161,13 @@ fresh-sized e (f ∷ fs) l (h, hs) = h
 
 -- ---- the steps
 
-pub changed-sound : (s : State) (i : ℕ) (d : List ℕ) → Sound s → commandStatus (s .core) i d ≡ ok → Sound (changed s i d)
+pub changed-sound : (s : State) (u : Inputs) (i : ℕ) (d : List ℕ) → Handed u → Sound s → Cleared (s .core) i d → Sound (changed s u i d)
 unfolding changed
-changed-sound s i d h e =
+changed-sound s u i d handed h e =
     record {
       rights = h .rights;
       limits = h .limits;
-      session = h .session;
+      channel = channel-kept (s .core) u i d handed (h .channel) e;
       figures = figures-kept (s .core) d (h .figures) i e;
       journal = journal-kept (s .core) d (h .journal) i;
       apart = apart-kept (s .core) d (h .apart) i e;
@@ -132,7 +180,7 @@ ended-sound s h =
     record {
       rights = h .rights;
       limits = h .limits;
-      session = refl;
+      channel = bare-fitting Closed refl;
       figures = rules-laws.dropped-sound _ (h .figures);
       journal = fit-dropped _ (h .journal);
       apart = refl;
@@ -141,4 +189,4 @@ ended-sound s h =
 
 pub session-sound : (s : State) (k : Session) → Sound s → sessionSound k ≡ true → Sound (withSession s k)
 unfolding withSession
-session-sound s k h e = record { rights = h .rights; limits = h .limits; session = e; figures = h .figures; journal = h .journal; apart = h .apart; files = h .files }
+session-sound s k h e = record { rights = h .rights; limits = h .limits; channel = bare-fitting (stageOf k) (bench-sound k e); figures = h .figures; journal = h .journal; apart = h .apart; files = h .files }

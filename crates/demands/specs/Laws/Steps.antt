@@ -23,12 +23,15 @@ use Rattle.card.specs.declared.Card.{Card}
 use Rattle.card.specs.View.{view, put}
 use Rattle.standing.specs.Parts.{logBroken, log-few, parted, joined}
 use Rattle.card.specs.Outcome.{Outcome}
-use Rattle.card.specs.Events.{Played, ended, refused, accepted, played, laidInto, withSession, sessionChanged, poweredUp}
+use Rattle.card.specs.Events.{Played, ended, refused, acceptedPlain, accepted, played, laidInto, withSession, sessionChanged, poweredUp}
 use Rattle.commands.specs.PlacesLaws.{pending-view}
 use Rattle.card.specs.Laws.{command-plays}
-use Rattle.demands.specs.History.{Event, command, session, power, outcome, next, run, along}
+use Rattle.demands.specs.History.{Handed, Event, command, session, power, outcome, next, run, along, plainIn}
 use Rattle.demands.specs.Demands.{Kept}
 use Rattle.demands.specs.Laws.Sound.{Sound, fresh-sized, changed-sound, ended-sound, session-sound}
+use Rattle.demands.specs.Laws.Inside.{Cleared, cleared}
+use Rattle.channel.specs.declared.Inputs.{Inputs}
+use Rattle.frames.specs.Frame.{insOf, dataOf}
 
 -- ---- a card that keeps the rules stands for a sound state
 
@@ -43,11 +46,11 @@ some-view l = by (l .adds)
 pub sound-view : (c : Card) → Kept c → Sound (view c)
 unfolding view log.view logBroken
 sound-view c h =
-    let n = parted (c .settings) (c .purse) (c .log) (c .session) (h .rules) in
+    let n = parted (c .settings) (c .purse) (c .log) (c .channel .stage) (h .rules) in
     record {
       rights = n .0;
       limits = n .1 .0;
-      session = not-false _ (n .1 .1 .0);
+      channel = record { known = not-false _ (n .1 .1 .0); secret = h .secret; ti = h .ti; caps = h .caps };
       figures = rw (pending-view (c .log)) (rules-laws.sound (n .1 .1 .1 .1 .0));
       journal = fit-view (c .log) (log-few (c .log) (n .1 .1 .1 .0)) (h .slots) (h .entry);
       apart = rw (some-view (c .log)) (or-no (ltb 4 (c .log .count)) _ (n .1 .1 .1 .0) .1);
@@ -61,22 +64,25 @@ unfolding put log.put logBroken logPending
 put-kept c s k h =
     let room = joined-room (s .core .journal) (h .journal) in
     record {
-      rules = joined _ _ _ _ (h .rights, (h .limits, (not-no _ (h .session), (or-none _ _ (le-ltb 4 (length (s .core .journal .entries)) (h .journal .few)) (h .apart), (rules-laws.unbroken (h .figures), tt)))));
+      rules = joined _ _ _ _ (h .rights, (h .limits, (not-no _ (h .channel .known), (or-none _ _ (le-ltb 4 (length (s .core .journal .entries)) (h .journal .few)) (h .apart), (rules-laws.unbroken (h .figures), tt)))));
       f00 = h .files .f00;
       f04 = h .files .f04;
       f1f = h .files .f1f;
       slots = length-laid (c .log .slots) 0 (journal.joined (s .core .journal .entries)) (omega (arith, k .slots)) ∙ k .slots;
       entry = fresh-sized (c .log .entry) (s .core .journal .fresh) (k .entry) (h .journal .fresh-sized);
+      secret = h .channel .secret;
+      ti = h .channel .ti;
+      caps = h .channel .caps;
     }
 
 pub view-put : (c : Card) (s : State) → Sound s → view (put c s) ≡ s
 unfolding view put
-view-put c s h = ap (λ (j : Journal). record { core = record { settings = s .core .settings; purse = s .core .purse; journal = j; session = s .core .session }; files = s .files }) (logbook.view-put (c .log) (s .core .journal) (h .journal))
+view-put c s h = ap (λ (j : Journal). record { core = record { settings = s .core .settings; keys = s .core .keys; purse = s .core .purse; journal = j; channel = s .core .channel }; files = s .files }) (logbook.view-put (c .log) (s .core .journal) (h .journal))
 
 -- ---- an event on a state
 
 unfoldable pub plays : State → Event → Played
-plays s (command f) = played s f
+plays s (command f u handed) = played s u f
 plays s (session k known) = record { state = withSession s k; out = [] }
 plays s power = record { state = ended s; out = [] }
 
@@ -85,17 +91,21 @@ moves s e = plays s e .state
 
 pub outcome-plays : (c : Card) → Kept c → (e : Event) → outcome c e ≡ laidInto c (plays (view c) e)
 unfolding outcome plays sessionChanged poweredUp
-outcome-plays c h (command f) = sym (command-plays c f 258 (omega arith) (h .rules))
+outcome-plays c h (command f u handed) = sym (command-plays c f u 258 (omega arith) (h .rules))
 outcome-plays c h (session k known) = passed _ _ (not-no _ known) ∙ passed _ _ (h .rules)
 outcome-plays c h power = passed _ _ (h .rules)
 
-played-sound : (s : State) (f : List ℕ) → Sound s → Sound (played s f .state)
-unfolding played refused accepted
-played-sound s f h = pick-cases (λ (p : Played). Sound (p .state)) (eqb (statusOf (s .core) f) ok) _ _ (λ e. changed-sound s _ _ h (command-ok (s .core) f (eqb-true _ _ e))) (λ e. ended-sound s h)
+-- the data field of an accepted frame
+pub accepted-cleared : (s : State) (f : List ℕ) → eqb (statusOf (s .core) f) ok ≡ true → Cleared (s .core) (insOf f) (plainIn (s .core) f)
+accepted-cleared s f e = cleared (s .core) (insOf f) (dataOf f) (command-ok (s .core) f (eqb-true _ _ e))
+
+played-sound : (s : State) (f : List ℕ) (u : Inputs) → Handed u → Sound s → Sound (played s u f .state)
+unfolding played refused accepted acceptedPlain
+played-sound s f u handed h = pick-cases (λ (p : Played). Sound (p .state)) (eqb (statusOf (s .core) f) ok) _ _ (λ e. changed-sound s u _ _ handed h (accepted-cleared s f e)) (λ e. ended-sound s h)
 
 pub moves-sound : (s : State) (e : Event) → Sound s → Sound (moves s e)
 unfolding plays
-moves-sound s (command f) h = played-sound s f h
+moves-sound s (command f u handed) h = played-sound s f u handed h
 moves-sound s (session k known) h = session-sound s k h known
 moves-sound s power h = ended-sound s h
 

@@ -10,14 +10,16 @@ use Rattle.datafiles.specs.Files.{zeros}
 use Rattle.purse.specs.Purse as purse
 use Rattle.standing.specs.Laws as rules-laws
 use Rattle.logbook.specs.Journal as journal
-use Rattle.access.specs.declared.Session.the-variants.{Nobody}
+use Rattle.keys.specs.declared.Keys.{Keys}
+use Rattle.channel.specs.declared.Inputs.{Inputs}
+use Rattle.channel.specs.Channel.{closed}
 use Rattle.settings.specs.declared.Settings.{Settings}
 use Rattle.commands.specs.State.{State, logPending}
 use Rattle.commands.specs.Rows.{ok, statusOf}
 use Rattle.card.specs.declared.Card.{Card}
 use Rattle.card.specs.View.{view}
 use Rattle.card.specs.Outcome.{Outcome, replyOf}
-use Rattle.card.specs.Events.{changed, Played, ended, refused, accepted, played, laidInto, withSession, issued}
+use Rattle.card.specs.Events.{changed, Played, ended, refused, acceptedPlain, accepted, played, laidInto, withSession, issued}
 use Rattle.demands.specs.Strike.{Line, posts, through}
 use Rattle.demands.specs.Books.{booked}
 use Rattle.demands.specs.DataFiles.{Write, filed, stored}
@@ -35,51 +37,69 @@ lines-view : {X : Type 0} (acceptedLine : ℕ → List ℕ → Line X) (c : Card
 unfolding traced
 lines-view acceptedLine c h es = along-views (λ c e. lineBy acceptedLine (view c) e) (lineBy acceptedLine) (λ c h e. refl) c h es
 
--- ---- the settings stay
+-- ---- settings and keys stay
 
-settings-played : (s : State) (f : List ℕ) → played s f .state .core .settings ≡ s .core .settings
-unfolding played accepted refused changed ended
-settings-played s f = pick-both (λ (p : Played). p .state .core .settings ≡ s .core .settings) (eqb (statusOf (s .core) f) ok) _ _ refl refl
+abbrev Fixed : State → State → Type 0
+Fixed s t = (t .core .settings ≡ s .core .settings) × (t .core .keys ≡ s .core .keys)
 
-settings-moves : (s : State) (e : Event) → moves s e .core .settings ≡ s .core .settings
+fixed-played : (s : State) (f : List ℕ) (u : Inputs) → Fixed s (played s u f .state)
+unfolding played accepted acceptedPlain refused changed ended
+fixed-played s f u = pick-both (λ (p : Played). Fixed s (p .state)) (eqb (statusOf (s .core) f) ok) _ _ (refl, refl) (refl, refl)
+
+fixed-moves : (s : State) (e : Event) → Fixed s (moves s e)
 unfolding plays
-settings-moves s (command f) = settings-played s f
-settings-moves s (session k known) = unfold withSession in refl
-settings-moves s power = unfold ended in refl
+fixed-moves s (command f u handed) = fixed-played s f u
+fixed-moves s (session k known) = unfold withSession in (refl, refl)
+fixed-moves s power = unfold ended in (refl, refl)
 
-settings-run : (s : State) (es : List Event) → run moves s es .core .settings ≡ s .core .settings
+fixed-run : (s : State) (es : List Event) → Fixed s (run moves s es)
 unfolding run
-settings-run s [] = refl
-settings-run s (e ∷ es) = settings-run (moves s e) es ∙ settings-moves s e
+fixed-run s [] = (refl, refl)
+fixed-run s (e ∷ es) =
+    let h = fixed-run (moves s e) es in
+    let k = fixed-moves s e in
+    (h .0 ∙ k .0, h .1 ∙ k .1)
 
 -- ---- from an accepted personalisation
 
-module _ (s : Settings) (v : ℤ) (t : Taken s v) (es : List Event) where
-  books : booksOf (view (reached s v es)) ≡ booked v (traced bookLine (issued s v) es)
+module _ (s : Settings) (ks : Keys) (v : ℤ) (t : Taken s v) (es : List Event) where
+  books : booksOf (view (reached s ks v es)) ≡ booked v (traced bookLine (issued s ks v) es)
   books =
-      ap booksOf (view-run (issued s v) (issued-kept s v t) es)
-      ∙ books-law (view (issued s v)) v (issued-open s v t) (issued-books s v t) es
-      ∙ ap (booked v) (sym (lines-view bookLine (issued s v) (issued-kept s v t) es))
+      ap booksOf (view-run (issued s ks v) (issued-kept s ks v t) es)
+      ∙ books-law (view (issued s ks v)) v (issued-open s ks v t) (issued-books s ks v t) es
+      ∙ ap (booked v) (sym (lines-view bookLine (issued s ks v) (issued-kept s ks v t) es))
 
-  files : reached s v es .files ≡ filed (traced fileLine (issued s v) es)
+  files : reached s ks v es .files ≡ filed (traced fileLine (issued s ks v) es)
   unfolding filed view issued zeros
   files =
-      ap (λ (x : State). x .files) (view-run (issued s v) (issued-kept s v t) es)
-      ∙ files-law (view (issued s v)) (issued-open s v t .sound) es
-      ∙ ap (λ (ls : List (Line Write)). through stored zeros (posts ls)) (sym (lines-view fileLine (issued s v) (issued-kept s v t) es))
+      ap (λ (x : State). x .files) (view-run (issued s ks v) (issued-kept s ks v t) es)
+      ∙ files-law (view (issued s ks v)) (issued-open s ks v t .sound) es
+      ∙ ap (λ (ls : List (Line Write)). through stored zeros (posts ls)) (sym (lines-view fileLine (issued s ks v) (issued-kept s ks v t) es))
 
-  settings : reached s v es .settings ≡ s
+  settings : reached s ks v es .settings ≡ s
   unfolding view issued
-  settings = ap (λ (x : State). x .core .settings) (view-run (issued s v) (issued-kept s v t) es) ∙ settings-run (view (issued s v)) es
+  settings = ap (λ (x : State). x .core .settings) (view-run (issued s ks v) (issued-kept s ks v t) es) ∙ fixed-run (view (issued s ks v)) es .0
 
-  figures : rules-laws.Sound (s .limits) (reached s v es .purse) (logPending (view (reached s v es) .core .journal))
+  keys : reached s ks v es .keys ≡ ks
+  unfolding view issued
+  keys = ap (λ (x : State). x .core .keys) (view-run (issued s ks v) (issued-kept s ks v t) es) ∙ fixed-run (view (issued s ks v)) es .1
+
+  figures : rules-laws.Sound (s .limits) (reached s ks v es .purse) (logPending (view (reached s ks v es) .core .journal))
   unfolding view
   figures =
-      let c = reached s v es in
-      subst (λ (x : Settings). rules-laws.Sound (x .limits) (c .purse) (logPending (view c .core .journal))) settings (sound-view c (run-kept (issued s v) (issued-kept s v t) es) .figures)
+      let c = reached s ks v es in
+      subst (λ (x : Settings). rules-laws.Sound (x .limits) (c .purse) (logPending (view c .core .journal))) settings (sound-view c (run-kept (issued s ks v) (issued-kept s ks v t) es) .figures)
 
-pub demand3 : (s : Settings) (v : ℤ) → Taken s v → (es : List Event) → Demand3 s v es
-demand3 s v t es = record { books = books s v t es; files = files s v t es; settings = settings s v t es; value-inside = figures s v t es .value; pending-inside = figures s v t es .pending }
+pub demand3 : (s : Settings) (ks : Keys) (v : ℤ) → Taken s v → (es : List Event) → Demand3 s ks v es
+demand3 s ks v t es =
+    record {
+      books = books s ks v t es;
+      files = files s ks v t es;
+      settings = settings s ks v t es;
+      keys = keys s ks v t es;
+      value-inside = figures s ks v t es .value;
+      pending-inside = figures s ks v t es .pending;
+    }
 
 -- ---- equal replies
 
@@ -91,11 +111,11 @@ said-view : (c : Card) → Kept c → (e : Event) → said c e ≡ saidOn (view 
 unfolding said laidInto replyOf
 said-view c h e = ap (λ (o : Outcome). record { refusal = o .refusal; bytes = o .out; len = replyOf o .len }) (outcome-plays c h e)
 
-module _ (c d : Card) (h : Kept c) (k : Kept d) (s : c .settings ≡ d .settings) (f : c .files ≡ d .files) (b : booksOf (view c) ≡ booksOf (view d)) where
-  -- a powered-up state is a function of settings, data files and books
+module _ (c d : Card) (h : Kept c) (k : Kept d) (s : c .settings ≡ d .settings) (ks : c .keys ≡ d .keys) (f : c .files ≡ d .files) (b : booksOf (view c) ≡ booksOf (view d)) where
+  -- a powered-up state is a function of settings, keys, data files and books
   ended-alike : ended (view c) ≡ ended (view d)
   unfolding ended view purse.dropped journal.dropped
-  ended-alike = λ i. record { core = record { settings = s i; purse = purse.resting (b i .value) (b i .allowance); journal = journal.resting (b i .log); session = Nobody }; files = f i }
+  ended-alike = λ i. record { core = record { settings = s i; keys = ks i; purse = purse.resting (b i .value) (b i .allowance); journal = journal.resting (b i .log); channel = closed }; files = f i }
 
   alike : (es : List Event) → along next said (next c power) es ≡ along next said (next d power) es
   unfolding plays

@@ -13,22 +13,24 @@ use Rattle.wire.specs.Bytes.{laid}
 use Rattle.wire.specs.Laws.{laid-none}
 use Rattle.access.specs.declared.Session.{Session}
 use Rattle.access.specs.Rights.{sessionSound}
+use Rattle.keys.specs.declared.Keys.{Keys}
+use Rattle.channel.specs.declared.Inputs.{Inputs}
 use Rattle.settings.specs.declared.Settings.{Settings}
 use Rattle.card.specs.declared.Card.{Card}
 use Rattle.card.specs.declared.Reply.{Reply}
 use Rattle.card.specs.Outcome.{Outcome, replyOf, Answered, bench}
 use Rattle.card.specs.Events.{laidInto, commanded, sessionChanged, poweredUp, issued, personalised}
 use Rattle.card.specs.Laws.{answered-as, command-plays, command-short, session-unknown}
-use Rattle.demands.specs.History.{Event, command, session, power, outcome, next, Said, said, run, along}
+use Rattle.demands.specs.History.{Handed, Event, command, session, power, outcome, next, Said, said, run, along}
 use Rattle.demands.specs.Demands.{Kept, Taken, Unrefused, InCode}
 use Rattle.demands.specs.Calls.{seen, Ran, done, commands, changes, powers, short, unknown}
 use Rattle.demands.specs.Laws.Steps.{plays, outcome-plays, next-kept}
 use Rattle.demands.specs.Laws.Issued.{issued-kept}
 
 -- the room of the buffer shows in no outcome, once there is room
-same-room : (c : Card) → Kept c → (f : List ℕ) (room : ℕ) → 258 ≤ room → commanded c f room ≡ outcome c (command f)
+same-room : (c : Card) → Kept c → (f : List ℕ) (u : Inputs) (handed : Handed u) (room : ℕ) → 258 ≤ room → commanded c f u room ≡ outcome c (command f u handed)
 unfolding outcome
-same-room c h f room k = sym (command-plays c f room k (h .rules)) ∙ command-plays c f 258 (omega arith) (h .rules)
+same-room c h f u handed room k = sym (command-plays c f u room k (h .rules)) ∙ command-plays c f u 258 (omega arith) (h .rules)
 
 -- what was laid at the front of a buffer is read there
 read-front : (b x : List ℕ) → take (length x) (laid b 0 x) ≡ x
@@ -75,9 +77,9 @@ power-answers c h r q = (q, rw (silent) (laid-none []))
     silent = unfold outcome plays laidInto in ap (λ (o : Outcome). o .out) (outcome-plays c h power)
 
 -- the two bench refusals return the card as it was
-short-same : (c : Card) (f before after : List ℕ) (r : Reply) → length before < 258 → Answered (commanded c f (length before)) before after r → r .card ≡ c
+short-same : (c : Card) (f : List ℕ) (u : Inputs) (before after : List ℕ) (r : Reply) → length before < 258 → Answered (commanded c f u (length before)) before after r → r .card ≡ c
 unfolding replyOf bench
-short-same c f before after r less a = ap (λ (y : Reply). y .card) (a .0 ∙ ap replyOf (sym (command-short c f (length before) less)))
+short-same c f u before after r less a = ap (λ (y : Reply). y .card) (a .0 ∙ ap replyOf (sym (command-short c f u (length before) less)))
 
 unknown-same : (c : Card) (k : Session) (r : Reply) → sessionSound k ≡ false → r ≡ replyOf (sessionChanged c k) → r .card ≡ c
 unknown-same c k r e q = ap (λ (y : Reply). y .card) (q ∙ sym (session-unknown c k (not-yes _ e)))
@@ -87,17 +89,17 @@ follows-from c k es ss d e h = rw e at h
 
 ran-follows : {c d : Card} {es : List Event} {ss : List Said} → Ran d c es ss → Kept c → Follows c es ss d
 ran-follows done h = unfold run along in (refl, refl)
-ran-follows {c} {d} (commands {es = es} {ss = ss} f before after r room a rest) h =
-    let b : Answered (outcome c (command f)) before after r = answered-as _ _ before after r (same-room c h f (length before) room) a in
-    event-follows c d (command f) es ss before after r b (ran-follows rest (kept-after c h (command f) before after r b))
+ran-follows {c} {d} (commands {es = es} {ss = ss} f u handed before after r room a rest) h =
+    let b : Answered (outcome c (command f u handed)) before after r = answered-as _ _ before after r (same-room c h f u handed (length before) room) a in
+    event-follows c d (command f u handed) es ss before after r b (ran-follows rest (kept-after c h (command f u handed) before after r b))
 ran-follows {c} {d} (changes {es = es} {ss = ss} k known r q rest) h =
     let b = session-answers c h k known r q in
     event-follows c d (session k known) es ss [] [] r b (ran-follows rest (kept-after c h (session k known) [] [] r b))
 ran-follows {c} {d} (powers {es = es} {ss = ss} r q rest) h =
     let b = power-answers c h r q in
     event-follows c d power es ss [] [] r b (ran-follows rest (kept-after c h power [] [] r b))
-ran-follows {c} {d} {es} {ss} (short f before after r less a rest) h =
-    let e = short-same c f before after r less a in
+ran-follows {c} {d} {es} {ss} (short f u before after r less a rest) h =
+    let e = short-same c f u before after r less a in
     follows-from c (r .card) es ss d e (ran-follows rest (subst (λ (k : Card). Kept k) (sym e) h))
 ran-follows {c} {d} {es} {ss} (unknown k r q p rest) h =
     let e = unknown-same c k r q p in
@@ -110,15 +112,15 @@ said-unrefused c h (e ∷ es) = (ap (λ (o : Outcome). o .refusal) (outcome-play
 
 -- ---- from an accepted personalisation
 
-pub in-code : (s : Settings) (v : ℤ) (r : Reply) (es : List Event) (ss : List Said) (d : Card) → r ≡ replyOf (personalised s v) → r .refusal ≡ 0
-    → Ran d (r .card) es ss → InCode s v es ss d
+pub in-code : (s : Settings) (ks : Keys) (v : ℤ) (r : Reply) (es : List Event) (ss : List Said) (d : Card) → r ≡ replyOf (personalised s ks v) → r .refusal ≡ 0
+    → Ran d (r .card) es ss → InCode s ks v es ss d
 unfolding personalised bench replyOf
-in-code s v r es ss d q z ran =
+in-code s ks v r es ss d q z ran =
     let t : Taken s v = sym (ap (λ (y : Reply). y .refusal) q) ∙ z in
-    let e : r .card ≡ issued s v = ap (λ (y : Reply). y .card) q ∙ picked _ _ (eq-eqb _ _ t) in
-    let f = ran-follows ran (subst (λ (k : Card). Kept k) (sym e) (issued-kept s v t)) in
-    let g = follows-from (issued s v) (r .card) es ss d e f in
-    record { taken = t; card = g .0; replies = g .1; unrefused = subst (λ (x : List Said). Unrefused x) (sym (g .1)) (said-unrefused (issued s v) (issued-kept s v t) es) }
+    let e : r .card ≡ issued s ks v = ap (λ (y : Reply). y .card) q ∙ picked _ _ (eq-eqb _ _ t) in
+    let f = ran-follows ran (subst (λ (k : Card). Kept k) (sym e) (issued-kept s ks v t)) in
+    let g = follows-from (issued s ks v) (r .card) es ss d e f in
+    record { taken = t; card = g .0; replies = g .1; unrefused = subst (λ (x : List Said). Unrefused x) (sym (g .1)) (said-unrefused (issued s ks v) (issued-kept s ks v t) es) }
 
 -- ---- every history has a run, so the theorem speaks of all of them
 
@@ -130,9 +132,9 @@ power-silent : (c : Card) → Kept c → seen (replyOf (poweredUp c)) [] ≡ sai
 unfolding said replyOf outcome
 power-silent c h = seen-answered (poweredUp c) [] [] _ (power-answers c h _ refl)
 
-command-seen : (c : Card) (f before : List ℕ) → seen (replyOf (commanded c f 258)) (laid before 0 (commanded c f 258 .out)) ≡ said c (command f)
+command-seen : (c : Card) (f : List ℕ) (u : Inputs) (handed : Handed u) (before : List ℕ) → seen (replyOf (commanded c f u 258)) (laid before 0 (commanded c f u 258 .out)) ≡ said c (command f u handed)
 unfolding said replyOf outcome
-command-seen c f before = seen-answered (commanded c f 258) before _ _ (refl, refl)
+command-seen c f u handed before = seen-answered (commanded c f u 258) before _ _ (refl, refl)
 
 -- what was seen, in the words of said
 seen-as : (c d : Card) (e : Event) (es : List Event) (x y : Said) (ss : List Said) → x ≡ y → Ran d c (e ∷ es) (x ∷ ss) → Ran d c (e ∷ es) (y ∷ ss)
@@ -141,6 +143,6 @@ seen-as c d e es x y ss q h = subst (λ (z : Said). Ran d c (e ∷ es) (z ∷ ss
 pub runs : (c : Card) → Kept c → (es : List Event) → Ran (run next c es) c es (along next said c es)
 unfolding run along outcome replyOf
 runs c h [] = done
-runs c h (command f ∷ es) = seen-as c _ _ es _ _ _ (command-seen c f (replicate 258 0)) (commands f (replicate 258 0) _ (replyOf (commanded c f 258)) (omega arith) (refl, refl) (runs (next c (command f)) (next-kept c h (command f)) es))
+runs c h (command f u handed ∷ es) = seen-as c _ _ es _ _ _ (command-seen c f u handed (replicate 258 0)) (commands f u handed (replicate 258 0) _ (replyOf (commanded c f u 258)) (omega arith) (refl, refl) (runs (next c (command f u handed)) (next-kept c h (command f u handed)) es))
 runs c h (session k known ∷ es) = seen-as c _ _ es _ _ _ (session-silent c h k known) (changes k known (replyOf (sessionChanged c k)) refl (runs (next c (session k known)) (next-kept c h (session k known)) es))
 runs c h (power ∷ es) = seen-as c _ _ es _ _ _ (power-silent c h) (powers (replyOf (poweredUp c)) refl (runs (next c power) (next-kept c h power) es))

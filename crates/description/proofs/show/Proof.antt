@@ -14,6 +14,9 @@ returns : tie.Need-returns
 unfolding describedIn
 returns c = shows-as _ _ _ _ _ (hit _ _ _ (lt-ltb _ _ (c .if1 .taken)) refl) (shows-none (now (c .before .before .args .reply)))
 
+option-of-requires : tie.Need-option-of-requires
+option-of-requires c κs = tt
+
 rights-requires : tie.Need-rights-requires
 rights-requires c κs = tt
 
@@ -27,7 +30,7 @@ size-requires : tie.Need-size-requires
 size-requires c κs = tt
 
 cast-lay-figure : tie.Need-cast-lay-figure
-cast-lay-figure c = omega (arith, size-most (c .before .before .before .before .before .before .before .before .before .before .args .n))
+cast-lay-figure c = omega (arith, size-most (c .before .before .before .before .before .before .before .before .before .before .before .args .n))
 
 lay-figure-requires : tie.Need-lay-figure-requires
 lay-figure-requires c κs = search needs
@@ -44,8 +47,8 @@ returns-2 c =
     let t = h .before .before in
     let i = t .before in
     let r = i .before in
-    shows-as _ _ _ _ _ (skip _ _ _ (le-ltb _ _ (r .before .if1 .left)) (hit _ _ _ (sym (i .is-data .ensures) ∙ t .if2 .taken) refl))
-    (simp (z .size .ensures, r .rights .ensures) at (shows-then _ _ _ (h .lay-head .ensures) (f .lay-figure .ensures)))
+    shows-as _ _ _ _ _ (skip _ _ _ (le-ltb _ _ (r .before .before .if1 .left)) (hit _ _ _ (sym (i .is-data .ensures) ∙ t .if2 .taken) refl))
+    (simp (z .size .ensures, r .rights .ensures, r .before .option-of .ensures) at (shows-then _ _ _ (h .lay-head .ensures) (f .lay-figure .ensures)))
 
 show-value-requires : tie.Need-show-value-requires
 show-value-requires c κs = search needs
@@ -60,8 +63,8 @@ returns-3 c =
     let t = v .before .before in
     let e = t .before in
     let r = e .before .before in
-    shows-as _ _ _ _ _ (skip _ _ _ (le-ltb _ _ (r .before .if1 .left)) (skip _ _ _ (sym (e .before .is-data .ensures) ∙ e .if2 .left) (hit _ _ _ (eq-eqb _ _ (t .if3 .taken)) refl)))
-    (simp (r .rights .ensures) at (v .show-value .ensures))
+    shows-as _ _ _ _ _ (skip _ _ _ (le-ltb _ _ (r .before .before .if1 .left)) (skip _ _ _ (sym (e .before .is-data .ensures) ∙ e .if2 .left) (hit _ _ _ (eq-eqb _ _ (t .if3 .taken)) refl)))
+    (simp (r .rights .ensures, r .before .option-of .ensures) at (v .show-value .ensures))
 
 lay-head-requires-2 : tie.Need-lay-head-requires-2
 lay-head-requires-2 c κs = search needs
@@ -94,14 +97,15 @@ returns-4 c =
     let o = h .before .before in
     let e = o .before in
     let r = e .before .before in
-    shows-as _ _ _ _ _ (skip _ _ _ (le-ltb _ _ (r .before .if1 .left)) (skip _ _ _ (sym (e .before .is-data .ensures) ∙ e .if2 .left) (skip _ _ _ (ne-eqb _ _ (o .if3 .left)) refl)))
-    (simp (r .rights .ensures) at (shows-then _ _ _ (shows-then _ _ _ (shows-then _ _ _ (h .lay-head2 .ensures) (z .lay-figure2 .ensures)) (m .lay-figure3 .ensures)) (k .lay-figure4 .ensures)))
+    shows-as _ _ _ _ _ (skip _ _ _ (le-ltb _ _ (r .before .before .if1 .left)) (skip _ _ _ (sym (e .before .is-data .ensures) ∙ e .if2 .left) (skip _ _ _ (ne-eqb _ _ (o .if3 .left)) refl)))
+    (simp (r .rights .ensures, r .before .option-of .ensures) at (shows-then _ _ _ (shows-then _ _ _ (shows-then _ _ _ (h .lay-head2 .ensures) (z .lay-figure2 .ensures)) (m .lay-figure3 .ensures)) (k .lay-figure4 .ensures)))
 
 pub show-spec : {M : Type 1} → statement M
 show-spec =
     tie.close
     (tie.spec
     returns
+    option-of-requires
     rights-requires
     is-data-requires
     lay-head-requires

@@ -6,6 +6,9 @@ use Rattle.orders.proofs.settings_in.Tie as tie
 byte-at-requires : tie.Need-byte-at-requires
 byte-at-requires c κs = search needs
 
+byte-at-requires-2 : tie.Need-byte-at-requires-2
+byte-at-requires-2 c κs = search needs
+
 le2-at-requires : tie.Need-le2-at-requires
 le2-at-requires c κs = search needs
 
@@ -32,13 +35,14 @@ returns c =
     let l3 = l4 .before in
     let l2 = l3 .before in
     let l1 = l2 .before in
-    rw (l1 .le2-at .ensures, l2 .le2-at2 .ensures, l3 .le2-at3 .ensures, l4 .le2-at4 .ensures, l5 .le2-at5 .ensures, c .limits-in .ensures, l1 .before .byte-at .ensures)
+    rw (l1 .le2-at .ensures, l2 .le2-at2 .ensures, l3 .le2-at3 .ensures, l4 .le2-at4 .ensures, l5 .le2-at5 .ensures, c .limits-in .ensures, l1 .before .byte-at2 .ensures, l1 .before .before .byte-at .ensures)
 
 pub settings-in-spec : {M : Type 1} → statement M
 settings-in-spec =
     tie.close
     (tie.spec
     byte-at-requires
+    byte-at-requires-2
     le2-at-requires
     le2-at-requires-2
     le2-at-requires-3

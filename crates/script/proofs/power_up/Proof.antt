@@ -11,7 +11,7 @@ power-up-requires c κs = tt
 
 returns : tie.Need-returns
 unfolding saidOf textOf powered withCard replyOf
-returns c = let k = c .before .before .before .args .desk in ap (λ (x : Reply). record { desk = record { card = x .card; room = k .room; bench = k .bench }; out = refusalText (x .refusal) }) (c .before .power-up .ensures)
+returns c = let k = c .before .before .before .args .desk in ap (λ (x : Reply). record { desk = withCard k (x .card); out = refusalText (x .refusal) }) (c .before .power-up .ensures)
 
 pub power-up-spec : {M : Type 1} → statement M
 power-up-spec = tie.close (tie.spec power-up-requires returns)

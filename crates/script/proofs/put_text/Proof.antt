@@ -78,8 +78,8 @@ same-length-4 c = search needs
 returns-4 : tie.Need-returns-4
 unfolding textOf booksIn
 returns-4 c =
-    let s = c .before .before .before .before .before .before .before in
-    let e = ap (λ a. textOf a (s .args .card)) (c .before .before .before .before .enum-told2 .given .1) in
+    let s = c .before .before .before .before .before .before .before .before in
+    let e = ap (λ a. textOf a (s .args .card)) (c .before .before .before .before .before .enum-told2 .given .1) in
     shows-as _ _ _ _ _ (passed _ _ (le-ltb (length (now (s .args .text))) 96 (omega arith)) ∙ sym e) (c .before .before .put-books .ensures)
 
 pub put-text-spec : {M : Type 1} → statement M

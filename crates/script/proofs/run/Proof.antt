@@ -1,4 +1,4 @@
-use Rattle.script.specs.Lines.{Plays, lentRoom}
+use Rattle.script.specs.Lines.{Plays, withCard, commandedOn}
 use Rattle.script.specs.Laws.{lent-most, plays-lent, reply-bytes, told-desk}
 use Rattle.script.specs.RunLaws.{NoCommand}
 use Rattle.script.specs.Sofar.{Sofar, sofar-start, sofar-length, sofar-end, sofar-part, sofar-full, sofar-next, sofar-as}
@@ -61,20 +61,20 @@ module _ (k : tie.Then1 Inv-loop μ-loop) where
 -- and the card has replied to it, into the front of its buffer
 module _ (k : tie.After-command Inv-loop μ-loop) where
   abbrev line : tie.Then1 Inv-loop μ-loop
-  line = k .before .before .before .before .before .before
+  line = k .before .before .before .before .before .before .before
 
   abbrev at-loop : tie.At-loop Inv-loop μ-loop
   at-loop = turn (spelling line) .before
 
   abbrev buffer : List ℕ
-  buffer = k .command .last .1 .1 .0 ++ drop (k .before .before .before .before .before .lent-room .result - 0) (at-loop .loop .reply)
+  buffer = k .command .last .1 .1 .1 .0 ++ drop (k .before .before .before .before .before .before .lent-room .result - 0) (at-loop .loop .reply)
 
   buffer-length : length buffer ≡ 512
-  buffer-length = length-front (at-loop .loop .reply) (k .command .last .1 .1 .0) (k .before .before .before .before .before .lent-room .result - 0) (k .command .kept .1 .1 .0) ∙ at-loop .loop .inv .1
+  buffer-length = length-front (at-loop .loop .reply) (k .command .last .1 .1 .1 .0) (k .before .before .before .before .before .before .lent-room .result - 0) (k .command .kept .1 .1 .1 .0) ∙ at-loop .loop .inv .1
 
-  plays : Plays (commanded (at-loop .loop .desk .card) (part (spelling line .spell .last .1 .0) 0 (spelling line .spell .result)) (lentRoom (at-loop .loop .desk .room))) buffer (k .command .result)
+  plays : Plays (commandedOn (at-loop .loop .desk) (part (spelling line .spell .last .1 .0) 0 (spelling line .spell .result))) buffer (k .command .result)
   plays =
-      plays-lent (at-loop .loop .desk .card) _ (at-loop .loop .reply) _ (at-loop .loop .desk .room) _ _ (k .before .before .before .before .before .lent-room .ensures) (omega (arith, at-loop .loop .inv .1)) (k .command .kept .1 .1 .0) (k .command .ensures)
+      plays-lent (commanded (at-loop .loop .desk .card) _ (at-loop .loop .desk .inputs)) (at-loop .loop .reply) _ (at-loop .loop .desk .room) _ _ (k .before .before .before .before .before .before .lent-room .ensures) (omega (arith, at-loop .loop .inv .1)) (k .command .kept .1 .1 .1 .0) (k .command .ensures)
 
 -- it does not: the line goes up to the next LF
 module _ (k : tie.Else3 Inv-loop μ-loop) where
@@ -128,7 +128,7 @@ part-command-start : tie.Need-part-command-start Inv-loop μ-loop
 part-command-start c = omega arith
 
 part-command-end : tie.Need-part-command-end Inv-loop μ-loop
-part-command-end c = omega (arith, fits (c .before .before .before .before .before .before))
+part-command-end c = omega (arith, fits (c .before .before .before .before .before .before .before))
 
 sub-command-2 : tie.Need-sub-command-2 Inv-loop μ-loop
 sub-command-2 c = omega arith
@@ -138,8 +138,8 @@ part-reply-start c = omega arith
 
 part-reply-end : tie.Need-part-reply-end Inv-loop μ-loop
 part-reply-end c =
-    let v = c .before .before .before .before .before .before .before .before .before .before .before .loop in
-    omega (arith, lent-most (v .desk .room), c .before .before .before .lent-room .ensures, v .inv .1)
+    let v = c .before .before .before .before .before .before .before .before .before .before .before .before .loop in
+    omega (arith, lent-most (v .desk .room), c .before .before .before .before .lent-room .ensures, v .inv .1)
 
 command-requires : tie.Need-command-requires Inv-loop μ-loop
 command-requires c κs = tt
@@ -157,7 +157,7 @@ put-line-requires : tie.Need-put-line-requires Inv-loop μ-loop
 put-line-requires c κs = tt
 
 same-length : tie.Need-same-length Inv-loop μ-loop
-same-length c = c .before .before .before .put-line .kept .1 .1 .1 .0 ∙ sofar-length _ _ _ _ _ _ _ (c .before .before .before .before .before .before .before .before .before .before .before .before .before .before .before .before .before .before .before .before .before .loop .inv .2)
+same-length c = c .before .before .before .put-line .kept .1 .1 .1 .0 ∙ sofar-length _ _ _ _ _ _ _ (c .before .before .before .before .before .before .before .before .before .before .before .before .before .before .before .before .before .before .before .before .before .before .loop .inv .2)
 
 returns : tie.Need-returns Inv-loop μ-loop
 returns c =
@@ -168,12 +168,13 @@ returns c =
     played-full (a .desk) (now (a .text)) (now (a .out)) (v .desk) (v .at) (v .n) (v .out) (v .inv .2) (v .frame) _ _ (v .inv .0) (turn w .loop-test .taken) (w .spell .ensures) (ends (line m .before) (line m .if1 .taken)) (buffer m) _ (plays m) _ _ (c .before .before .before .put-line .ensures) (c .if2 .taken)
 
 add-at : tie.Need-add-at Inv-loop μ-loop
-add-at c = record { fits = omega (arith, inside (c .before .before .before .before .before .before .before .before .before .before .before .before .before .before .before), c .before .before .before .before .before .before .before .before .before .before .before .before .before .before .before .before .before .before .before .before .before .before .before .before .before .good) }
+add-at c = record { fits = omega (arith, inside (c .before .before .before .before .before .before .before .before .before .before .before .before .before .before .before .before), c .before .before .before .before .before .before .before .before .before .before .before .before .before .before .before .before .before .before .before .before .before .before .before .before .before .before .good) }
 
 loop-less : tie.Need-loop-less Inv-loop μ-loop
-loop-less c = omega (arith, inside (c .before .before .before .before .before .before .before .before .before .before .before .before .before .before .before))
+loop-less c = omega (arith, inside (c .before .before .before .before .before .before .before .before .before .before .before .before .before .before .before .before))
 
 loop-again : tie.Need-loop-again Inv-loop μ-loop
+unfolding withCard
 loop-again c =
     let m = c .before .before .before .before .before .before .before .before .before in
     let w = spelling (line m) in

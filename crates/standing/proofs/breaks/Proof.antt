@@ -23,7 +23,7 @@ returns c =
     let s = l .before in
     let x = s .before in
     let a = x .before .before .before .args in
-    rw (x .before .has-wrong-rights .ensures, x .are-crossed .ensures, s .is-sound .ensures, l .log-breaks .ensures, c .value-breaks .ensures) (by-parts (a .settings) (a .purse) (a .log) (a .session))
+    rw (x .before .has-wrong-rights .ensures, x .are-crossed .ensures, s .is-sound .ensures, l .log-breaks .ensures, c .value-breaks .ensures) (by-parts (a .settings) (a .purse) (a .log) (a .stage))
 
 pub breaks-spec : {M : Type 1} → statement M
 breaks-spec =

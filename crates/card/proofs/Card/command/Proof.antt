@@ -1,59 +1,74 @@
 use Rattle.card.specs.declared.Card.{Card}
 use Rattle.card.specs.Events.{replyRoom}
-use Rattle.card.specs.Laws.{bench-answers, answered-as, command-short, command-broken, command-refused, command-taken, command-shows, command-quiet, moved}
-use Rattle.card.specs.Order.{status-told}
+use Rattle.card.specs.Accepted.{Granted}
+use Rattle.card.specs.Laws.{bench-answers, answered-as, command-short, command-broken, command-refused, command-granted, command-accepts, command-part, command-quiet, begins-plain, opens-plain, opens-long, moved, wrote}
+use Rattle.card.specs.Order.{status-told, maced-told}
 use Rattle.card.specs.View.{view, broken}
-use Rattle.commands.specs.Rows.{ok, statusOf}
+use Rattle.channel.specs.declared.Inputs.{Inputs}
+use Rattle.commands.specs.Rows.{ok, macedIn, statusOf}
+use Rattle.frames.specs.Frame.{insOf, dataOf}
+use Rattle.tables.specs.Choice.{pick-both}
 use borrow.Author.Tests.{ne-eqb}
-use borrow.Author.Needs.{needs}
 use denote.Ref.{now}
 use lib.ListN.{length}
-use Prim.Native.Nat.{ℕ, _≤_}
+use Prim.Native.Nat.{ℕ, _+_, _≤_}
 use mathlib.Core.Bool.{false}
 use mathlib.Core.List.{List}
 use mathlib.Core.Path.{_≡_, refl, sym, _∙_}
+use native.Mathlib.Omega.{arith}
+use borrow.Author.Needs.{needs}
 use Rattle.card.proofs.Card.command.Statement.{statement}
 use Rattle.card.proofs.Card.command.Tie as tie
 
 -- what the code knows where there is no bench refusal, and no reason of the table applies
-module _ (k : tie.Else3) where
+module _ (p : tie.After-plain) where
   abbrev card : Card
-  card = k .before .before .before .before .before .before .before .before .before .before .args .self
+  card = p .before .before .before .before .before .before .before .before .before .before .before .before .before .before .before .args .self
 
   abbrev frame : List ℕ
-  frame = now (k .before .before .before .before .before .before .before .before .before .before .args .frame)
+  frame = now (p .before .before .before .before .before .before .before .before .before .before .before .before .before .before .before .args .frame)
+
+  abbrev inputs : Inputs
+  inputs = p .before .before .before .before .before .before .before .before .before .before .before .before .before .before .before .args .inputs
 
   abbrev buffer : List ℕ
-  buffer = now (k .before .before .before .before .before .before .before .before .before .before .args .reply)
+  buffer = now (p .before .before .before .before .before .before .before .before .before .before .before .before .before .before .before .args .reply)
 
   room : replyRoom ≤ length buffer
-  room = k .before .before .before .before .if1 .left
+  room = p .before .before .before .before .before .before .before .if1 .left
 
   sound : broken card ≡ false
-  sound = sym (k .before .before .before .breaks .ensures) ∙ k .before .before .if2 .left
+  sound = sym (p .before .before .before .before .before .before .breaks .ensures) ∙ p .before .before .before .before .before .if2 .left
 
   taken : statusOf (view card .core) frame ≡ ok
   unfolding view
-  taken = sym (status-told _ _ (k .before .check .ensures)) ∙ k .if3 .left
+  taken = sym (status-told _ _ (p .before .before .before .before .check .ensures)) ∙ p .before .before .before .if3 .left
+
+  maced : p .before .before .before .before .check .result .maced ≡ macedIn (view card .core) (insOf frame) (dataOf frame)
+  unfolding view
+  maced = maced-told _ _ (p .before .before .before .before .check .ensures) taken
+
+  granted : Granted (view card .core) (p .before .before .before .before .check .result .maced) (p .before .before .byte-at .result) (now (p .plain .result))
+  granted = command-granted card frame inputs buffer room sound taken maced (p .before .before .byte-at .ensures) (p .before .«data» .ensures) (p .plain .ensures)
 
 returns : tie.Need-returns
 returns c =
-    let a = c .before .before .before .before .before .before .args in
-    answered-as _ _ _ _ _ (command-short (a .self) (now (a .frame)) _ (c .if1 .taken)) (bench-answers (a .self) 5 (now (a .reply)))
+    let a = c .before .before .before .before .before .before .before .before .args in
+    answered-as _ _ _ _ _ (command-short (a .self) (now (a .frame)) (a .inputs) _ (c .if1 .taken)) (bench-answers (a .self) 5 (now (a .reply)))
 
 breaks-requires : tie.Need-breaks-requires
 breaks-requires c κs = tt
 
 returns-2 : tie.Need-returns-2
 returns-2 c =
-    let a = c .before .before .before .before .before .before .before .before .args in
-    answered-as _ _ _ _ _ (command-broken (a .self) (now (a .frame)) _ (c .before .before .if1 .left) (sym (c .before .breaks .ensures) ∙ c .if2 .taken)) (bench-answers (a .self) 6 (now (a .reply)))
+    let a = c .before .before .before .before .before .before .before .before .before .before .args in
+    answered-as _ _ _ _ _ (command-broken (a .self) (now (a .frame)) (a .inputs) _ (c .before .before .if1 .left) (sym (c .before .breaks .ensures) ∙ c .if2 .taken)) (bench-answers (a .self) 6 (now (a .reply)))
 
 check-requires : tie.Need-check-requires
 check-requires c κs = tt
 
-put-status-requires : tie.Need-put-status-requires
-put-status-requires c κs = tt
+close-requires : tie.Need-close-requires
+close-requires c κs = omega arith
 
 ended-requires : tie.Need-ended-requires
 ended-requires c κs = tt
@@ -65,9 +80,10 @@ returns-3 : tie.Need-returns-3
 unfolding view
 returns-3 c =
     let k = c .before .before .before .before .before in
-    let a = k .before .before .before .before .before .before .before .before .before .before .args in
+    let a = k .before .before .before .before .before .before .before .before .before .before .before .before .args in
     let u = sym (k .before .before .before .breaks .ensures) ∙ k .before .before .if2 .left in
-    command-refused (a .self) (now (a .frame)) (now (a .reply)) (k .before .before .before .before .if1 .left) u _ (status-told _ _ (k .before .check .ensures)) (k .if3 .taken) (c .ended .ensures) (c .before .before .before .put-status .ensures)
+    let w = c .before .before .before .close .ensures in
+    command-refused (a .self) (now (a .frame)) (a .inputs) (now (a .reply)) (k .before .before .before .before .if1 .left) u _ (status-told _ _ (k .before .check .ensures)) (k .if3 .taken) (c .ended .ensures) (w .0) (w .1)
 
 byte-at-requires : tie.Need-byte-at-requires
 byte-at-requires c κs = tt
@@ -75,38 +91,73 @@ byte-at-requires c κs = tt
 data-requires : tie.Need-data-requires
 data-requires c κs = tt
 
-shows-requires : tie.Need-shows-requires
-shows-requires c κs = tt
+plain-requires : tie.Need-plain-requires
+plain-requires c κs = tt
 
-shown-requires : tie.Need-shown-requires
-shown-requires c κs =
-    let d = c .before .before .before in
-    let k = d .before .before in
-    (sym (c .before .before .shows .ensures) ∙ c .before .if4 .taken, command-taken (card k) (frame k) (buffer k) (room k) (sound k) (taken k) (d .before .byte-at .ensures) (d .data .ensures), sound k, room k)
+begun-requires : tie.Need-begun-requires
+begun-requires c κs = room (c .before .before)
 
 same-length-2 : tie.Need-same-length-2
 same-length-2 c = search needs
 
 returns-4 : tie.Need-returns-4
 returns-4 c =
-    let d = c .before .before .before .before .before .before in
-    let k = d .before .before in
-    command-shows (card k) (frame k) (buffer k) (room k) (sound k) (taken k) (d .before .byte-at .ensures) (d .data .ensures) (c .before .before .shown .ensures)
+    let p = c .before .before .before .before .before in
+    command-part (card p) (frame p) (inputs p) (buffer p) (room p) (sound p) (taken p) (maced p) (p .before .before .byte-at .ensures) (p .before .«data» .ensures) (p .plain .ensures) (c .before .before .before .before .if4 .taken)
+    (begins-plain (card p) (frame p) (inputs p) (buffer p) (room p) (sound p) (taken p) (maced p) (p .before .before .byte-at .ensures) (p .before .«data» .ensures) (p .plain .ensures) (c .before .before .before .before .if4 .taken))
+    (c .before .before .begun .ensures)
 
-put-status-requires-2 : tie.Need-put-status-requires-2
-put-status-requires-2 c κs = tt
-
-written-requires : tie.Need-written-requires
-written-requires c κs = tt
+opened-requires : tie.Need-opened-requires
+opened-requires c κs =
+    let p = c .before .before .before in
+    (room p, opens-long (card p) (frame p) (inputs p) (buffer p) (room p) (sound p) (taken p) (maced p) (p .before .before .byte-at .ensures) (p .before .«data» .ensures) (p .plain .ensures) (c .before .if5 .taken))
 
 same-length-3 : tie.Need-same-length-3
 same-length-3 c = search needs
 
 returns-5 : tie.Need-returns-5
 returns-5 c =
-    let d = c .before .before .before .before .before .before .before .before in
-    let k = d .before .before in
-    command-quiet (card k) (frame k) (buffer k) (room k) (sound k) (taken k) (sym (c .before .if5 .taken) ∙ d .before .byte-at .ensures) (d .data .ensures) refl (c .written .ensures) (c .before .before .before .before .put-status2 .ensures)
+    let p = c .before .before .before .before .before .before in
+    command-part (card p) (frame p) (inputs p) (buffer p) (room p) (sound p) (taken p) (maced p) (p .before .before .byte-at .ensures) (p .before .«data» .ensures) (p .plain .ensures) (c .before .before .before .before .if5 .taken)
+    (opens-plain (card p) (frame p) (inputs p) (buffer p) (room p) (sound p) (taken p) (maced p) (p .before .before .byte-at .ensures) (p .before .«data» .ensures) (p .plain .ensures) (c .before .before .before .before .if5 .taken))
+    (c .before .before .opened .ensures)
+
+shows-requires : tie.Need-shows-requires
+shows-requires c κs = tt
+
+shown-requires : tie.Need-shown-requires
+shown-requires c κs =
+    let p = c .before .before .before .before .before in
+    (sym (c .before .before .shows .ensures) ∙ c .before .if6 .taken, granted p, sound p, room p)
+
+same-length-4 : tie.Need-same-length-4
+same-length-4 c = search needs
+
+returns-6 : tie.Need-returns-6
+returns-6 c =
+    let p = c .before .before .before .before .before .before .before .before in
+    command-accepts (card p) (frame p) (inputs p) (buffer p) (room p) (sound p) (taken p) (maced p) (p .before .before .byte-at .ensures) (p .before .«data» .ensures) (p .plain .ensures) (c .before .before .shown .ensures)
+
+counted-requires : tie.Need-counted-requires
+counted-requires c κs = tt
+
+seal-requires : tie.Need-seal-requires
+seal-requires c κs =
+    let p = c .before .before .before .before .before .before in
+    (pick-both (λ n. 0 + n ≤ 256) _ 8 0 (omega arith) (omega arith), room p)
+
+next-files-requires : tie.Need-next-files-requires
+next-files-requires c κs = tt
+
+same-length-5 : tie.Need-same-length-5
+same-length-5 c = search needs
+
+returns-7 : tie.Need-returns-7
+returns-7 c =
+    let q = c .before .before .before .before .before .before .before .before in
+    let p = c .before .before .before .before .before .before .before .before .before .before .before .before in
+    let w = wrote (card p) (inputs p) _ (now (p .plain .result)) _ (c .before .if7 .taken) (c .next-files .ensures) (c .before .before .before .before .before .before .before .counted .ensures) in
+    command-quiet (card p) (frame p) (inputs p) (buffer p) (room p) (sound p) (taken p) (maced p) (p .before .before .byte-at .ensures) (p .before .«data» .ensures) (p .plain .ensures) (ne-eqb _ _ (q .before .before .before .if4 .left)) (ne-eqb _ _ (q .before .before .if5 .left)) (sym (q .before .shows .ensures) ∙ q .if6 .left) w (c .before .before .before .before .before .before .before .counted .ensures) (c .before .before .before .before .before .seal .ensures)
 
 next-purse-requires : tie.Need-next-purse-requires
 next-purse-requires c κs = tt
@@ -114,17 +165,17 @@ next-purse-requires c κs = tt
 next-log-requires : tie.Need-next-log-requires
 next-log-requires c κs = tt
 
-same-length-4 : tie.Need-same-length-4
-same-length-4 c = search needs
+same-length-6 : tie.Need-same-length-6
+same-length-6 c = search needs
 
-returns-6 : tie.Need-returns-6
-returns-6 c =
-    let q = c .before .before .before .before .before .before .before .before in
-    let d = q .before .before in
-    let k = d .before .before in
-    let e = command-taken (card k) (frame k) (buffer k) (room k) (sound k) (taken k) (d .before .byte-at .ensures) (d .data .ensures) in
-    let m = moved (card k) _ _ _ _ e (ne-eqb _ _ (c .before .before .before .if5 .left)) (c .before .next-purse .ensures) (c .next-log .ensures) in
-    command-quiet (card k) (frame k) (buffer k) (room k) (sound k) (taken k) (d .before .byte-at .ensures) (d .data .ensures) (sym (q .before .shows .ensures) ∙ q .if4 .left) m (c .before .before .before .before .before .before .put-status2 .ensures)
+returns-8 : tie.Need-returns-8
+returns-8 c =
+    let q = c .before .before .before .before .before .before .before .before .before in
+    let p = c .before .before .before .before .before .before .before .before .before .before .before .before .before in
+    let n₁ = ne-eqb _ _ (q .before .before .before .if4 .left) in
+    let n₂ = ne-eqb _ _ (q .before .before .if5 .left) in
+    let w = moved (card p) (inputs p) _ _ _ _ (granted p .0) n₁ n₂ (ne-eqb _ _ (c .before .before .if7 .left)) (c .before .next-purse .ensures) (c .next-log .ensures) (c .before .before .before .before .before .before .before .before .counted .ensures) in
+    command-quiet (card p) (frame p) (inputs p) (buffer p) (room p) (sound p) (taken p) (maced p) (p .before .before .byte-at .ensures) (p .before .«data» .ensures) (p .plain .ensures) n₁ n₂ (sym (q .before .shows .ensures) ∙ q .if6 .left) w (c .before .before .before .before .before .before .before .before .counted .ensures) (c .before .before .before .before .before .before .seal .ensures)
 
 pub command-spec : {M : Type 1} → statement M
 command-spec =
@@ -134,21 +185,29 @@ command-spec =
     breaks-requires
     returns-2
     check-requires
-    put-status-requires
+    close-requires
     ended-requires
     same-length
     returns-3
     byte-at-requires
     data-requires
-    shows-requires
-    shown-requires
+    plain-requires
+    begun-requires
     same-length-2
     returns-4
-    put-status-requires-2
-    written-requires
+    opened-requires
     same-length-3
     returns-5
+    shows-requires
+    shown-requires
+    same-length-4
+    returns-6
+    counted-requires
+    seal-requires
+    next-files-requires
+    same-length-5
+    returns-7
     next-purse-requires
     next-log-requires
-    same-length-4
-    returns-6)
+    same-length-6
+    returns-8)

@@ -15,7 +15,7 @@ returns : tie.Need-returns
 returns c =
     let s = c .before .before .before in
     let a = s .args in
-    order-refused (a .settings) (a .value) _ _ (c .before .before .refusal .ensures ∙ ap (orderRefusal (a .settings)) (toZ-ofZ (s .fits .value))) (c .before .if1 .taken) (c .blank .ensures)
+    order-refused (a .settings) (a .keys) (a .value) _ _ (c .before .before .refusal .ensures ∙ ap (orderRefusal (a .settings)) (toZ-ofZ (s .fits .value))) (c .before .if1 .taken) (c .blank .ensures)
 
 issued-requires : tie.Need-issued-requires
 issued-requires c κs = tt
@@ -25,7 +25,7 @@ returns-2 c =
     let s = c .before .before .before in
     let a = s .args in
     let f = toZ-ofZ (s .fits .value) in
-    order-taken (a .settings) (a .value) _ _ (c .before .before .refusal .ensures ∙ ap (orderRefusal (a .settings)) f) (c .before .if1 .left) (c .issued .ensures ∙ ap (issued (a .settings)) f)
+    order-taken (a .settings) (a .keys) (a .value) _ _ (c .before .before .refusal .ensures ∙ ap (orderRefusal (a .settings)) f) (c .before .if1 .left) (c .issued .ensures ∙ ap (issued (a .settings) (a .keys)) f)
 
 pub personalise-spec : {M : Type 1} → statement M
 personalise-spec =

@@ -1,62 +1,51 @@
-use mathlib.Core.List.{List}
-use Prim.Native.Nat.{ℕ, _≤_}
-use lib.ListN.{length}
-use denote.Ref.{now}
-use native.Mathlib.Omega.{arith}
-use mathlib.Core.Path.{_≡_}
-use Rattle.wire.specs.Bytes.{Shows}
-use Rattle.replies.specs.Guarded.{shownIn}
-use Rattle.card.specs.Events.{shown}
-use Rattle.card.specs.View.{view}
 use Rattle.card.specs.Laws.{accepted-shows, shown-answers}
+use Rattle.card.specs.View.{view, onChannel}
+use Rattle.card.specs.Accepted.{baseShown}
+use Rattle.wire.specs.Bytes.{Shows}
+use Rattle.wire.specs.Laws.{shows-length}
+use Rattle.replies.specs.Guarded.{shownIn}
+use Rattle.tables.specs.Choice.{pick, pick-both}
+use mathlib.Core.List.{List}
+use Prim.Native.Nat.{ℕ, _+_, _≤_}
+use lib.ListN.{length}
+use mathlib.Core.Path.{_≡_, ap, _∙_}
+use native.Mathlib.Omega.{arith}
+use denote.Ref.{now}
 use borrow.Author.Needs.{needs}
 use Rattle.card.proofs.Card.shown.Statement.{statement}
 use Rattle.card.proofs.Card.shown.Tie as tie
 
--- what is laid first is the command's data, at most 256 bytes
+-- what is laid first is the command's data, with room for the rest
 laid-first : (s : tie.Start) (after : List ℕ) (n : ℕ)
     → Shows (shownIn (length (now (s .args .reply))) (s .args .self .settings) (s .args .self .files) (s .args .self .purse) (s .args .self .log) (s .args .ins) (now (s .args .d))) (now (s .args .reply)) after n
-    → Shows (shown (view (s .args .self)) (s .args .ins) (now (s .args .d))) (now (s .args .reply)) after n × (n ≤ 256)
+    → Shows (baseShown (view (s .args .self)) (s .args .ins) (now (s .args .d))) (now (s .args .reply)) after n × (n + pick (s .args .maced) 8 0 ≤ 256) × (258 ≤ length after)
 laid-first s after n h =
     let a = s .args in
-    let slots : length (a .self .log .slots) ≡ 64 = search needs in
-    let g = s .good .0 .1 .1 .1 .1 .1 .0 in
-    let entry : length (a .self .log .entry) ≡ 16 = search needs in
-    accepted-shows (a .self) (a .ins) (now (a .d)) (now (a .reply)) after n (s .pre .1) (s .pre .2) (s .pre .3) slots entry h
+    let log = s .good .0 .1 .1 .1 .1 .1 .1 .0 in
+    let slots : length (a .self .log .slots) ≡ 64 = search (needs, log) in
+    let entry : length (a .self .log .entry) ≡ 16 = search (needs, log) in
+    let w = accepted-shows (a .self) (a .maced) (a .ins) (now (a .d)) (now (a .reply)) after n (s .pre .1) (s .pre .2) (s .pre .3) slots entry h in
+    (w .0, w .1, omega (arith, s .pre .3, w .1, shows-length _ (now (a .reply)) after n (w .0) (omega (arith, s .pre .3, w .1))))
+
+counted-requires : tie.Need-counted-requires
+counted-requires c κs = tt
 
 show-requires : tie.Need-show-requires
 show-requires c κs = tt
 
-word-of-requires : tie.Need-word-of-requires
-word-of-requires c κs = tt
+seal-requires : tie.Need-seal-requires
+seal-requires c κs = let l = laid-first (c .before .before .before .before .before .before .before .before .before .before .before .before .before) _ _ (c .before .before .before .show .ensures) in (l .1, omega (arith, l .1, l .2))
 
-slice-aggregate-lay : tie.Need-slice-aggregate-lay
-slice-aggregate-lay c = search needs
-
-lay-requires : tie.Need-lay-requires
-lay-requires c κs = tt
-
-add-t19 : tie.Need-add-t19
-add-t19 c = let s = laid-first (c .before .before .before .before .before .before .before .before .before .before .before .before .before .before .before .before) _ _ (c .before .before .before .before .before .before .before .before .show .ensures) in record { fits = omega arith }
+on-channel-requires : tie.Need-on-channel-requires
+on-channel-requires c κs = tt
 
 same-length : tie.Need-same-length
 same-length c = search needs
 
 returns : tie.Need-returns
-returns c =
-    let a = c .before .before .before .before .before .before .before .before .before .before .before .before .before .before .before .before .args in
-    let p = c .before .before .before .before .before .before .before .before .before .before .before .before .before .before .before .before .pre in
-    let s = laid-first (c .before .before .before .before .before .before .before .before .before .before .before .before .before .before .before .before) _ _ (c .before .before .before .before .before .before .before .before .show .ensures) in
-    shown-answers (a .self) (a .ins) (now (a .d)) (now (a .reply)) _ _ _ _ (p .3) (s .1) (p .0) (s .0) (c .before .before .before .before .before .word-of .ensures) (c .before .before .lay .ensures)
+returns c = let a = c .before .before .before .before .before .before .before .before .before .before .before .before .before .before .before .before .before .args in let l = laid-first (c .before .before .before .before .before .before .before .before .before .before .before .before .before .before .before .before .before) _ _ (c .before .before .before .before .before .before .before .show .ensures) in shown-answers (a .self) (a .maced) (a .inputs) (a .ins) (now (a .d)) (now (a .reply)) (c .before .before .before .before .before .before .before .before .before .before .before .before .before .before .before .before .before .pre .0) (c .on-channel .ensures ∙ ap (onChannel (a .self)) (c .before .before .before .before .before .before .before .before .before .counted .ensures)) (l .0) (rw (c .before .before .before .before .before .before .before .before .before .counted .ensures) at (c .before .before .before .seal .ensures))
 
 pub shown-spec : {M : Type 1} → statement M
 shown-spec =
     tie.close
-    (tie.spec
-    show-requires
-    word-of-requires
-    slice-aggregate-lay
-    lay-requires
-    add-t19
-    same-length
-    returns)
+    (tie.spec counted-requires show-requires seal-requires on-channel-requires same-length returns)

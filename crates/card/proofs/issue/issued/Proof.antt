@@ -1,6 +1,7 @@
-use mathlib.Core.Path.{refl}
 use Rattle.card.specs.Events.{issued}
 use mir.Facts.{toZ-ofZ}
+use mathlib.Core.Path.{refl}
+use borrow.Author.Needs.{needs}
 use Rattle.card.proofs.issue.issued.Statement.{statement}
 use Rattle.card.proofs.issue.issued.Tie as tie
 
@@ -13,9 +14,13 @@ resting-requires c κs = tt
 empty-requires : tie.Need-empty-requires
 empty-requires c κs = tt
 
+bare-requires : tie.Need-bare-requires
+bare-requires c κs = tt
+
 returns : tie.Need-returns
 unfolding issued
-returns c = rw (c .before .before .zeros .ensures, c .before .resting .ensures, c .empty .ensures, toZ-ofZ (c .before .before .before .fits .value)) refl
+returns c = rw (c .before .before .before .zeros .ensures, c .before .before .resting .ensures, c .before .empty .ensures, c .bare .ensures, toZ-ofZ (c .before .before .before .before .fits .value)) refl
 
 pub issued-spec : {M : Type 1} → statement M
-issued-spec = tie.close (tie.spec zeros-requires resting-requires empty-requires returns)
+issued-spec =
+    tie.close (tie.spec zeros-requires resting-requires empty-requires bare-requires returns)

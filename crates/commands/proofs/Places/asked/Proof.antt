@@ -1,19 +1,35 @@
 use Rattle.commands.specs.PlacesLaws.{asked-by}
 use denote.Ref.{now}
+use borrow.Author.Needs.{needs}
 use Rattle.commands.proofs.Places.asked.Statement.{statement}
 use Rattle.commands.proofs.Places.asked.Tie as tie
 
 byte-at-requires : tie.Need-byte-at-requires
 byte-at-requires c κs = tt
 
+acting-requires : tie.Need-acting-requires
+acting-requires c κs = tt
+
 access-to-requires : tie.Need-access-to-requires
 access-to-requires c κs = tt
+
+is-maced-requires : tie.Need-is-maced-requires
+is-maced-requires c κs = tt
+
+plain-requires : tie.Need-plain-requires
+plain-requires c κs = tt
 
 unknown-command-requires : tie.Need-unknown-command-requires
 unknown-command-requires c κs = tt
 
+interrupts-requires : tie.Need-interrupts-requires
+interrupts-requires c κs = tt
+
 wrong-length-requires : tie.Need-wrong-length-requires
 wrong-length-requires c κs = tt
+
+lacks-mac-requires : tie.Need-lacks-mac-requires
+lacks-mac-requires c κs = tt
 
 unknown-file-requires : tie.Need-unknown-file-requires
 unknown-file-requires c κs = tt
@@ -24,6 +40,15 @@ other-kind-or-never-requires c κs = tt
 not-granted-requires : tie.Need-not-granted-requires
 not-granted-requires c κs = tt
 
+part-fails-requires : tie.Need-part-fails-requires
+part-fails-requires c κs = tt
+
+is-forged-requires : tie.Need-is-forged-requires
+is-forged-requires c κs = tt
+
+used-up-requires : tie.Need-used-up-requires
+used-up-requires c κs = tt
+
 switched-off-requires : tie.Need-switched-off-requires
 switched-off-requires c κs = tt
 
@@ -33,28 +58,40 @@ bad-parameter-requires c κs = tt
 is-outside-requires : tie.Need-is-outside-requires
 is-outside-requires c κs = tt
 
+is-long-read-requires : tie.Need-is-long-read-requires
+is-long-read-requires c κs = tt
+
 nothing-pending-requires : tie.Need-nothing-pending-requires
 nothing-pending-requires c κs = tt
 
 returns : tie.Need-returns
 returns c =
-    let a = c .before .before .before .before .before .before .before .before .before .before .before .before .before .args in
-    asked-by (a .settings) (a .purse) (a .log) (a .session) (a .ins) (now (a .d)) (c .before .before .before .before .before .before .before .before .before .before .before .byte-at .ensures) (c .before .before .before .before .before .before .before .before .before .before .access-to .ensures) (c .before .before .before .before .before .before .before .before .before .unknown-command .ensures) (c .before .before .before .before .before .before .before .before .wrong-length .ensures) (c .before .before .before .before .before .before .before .unknown-file .ensures)
-    (c .before .before .before .before .before .before .other-kind-or-never .ensures) (c .before .before .before .before .before .not-granted .ensures) (c .before .before .before .before .switched-off .ensures) (c .before .before .before .bad-parameter .ensures) (c .before .before .is-outside .ensures) (c .nothing-pending .ensures)
+    let s = c .before .before .before .before .before .before .before .before .before .before .before .before .before .before .before .before .before .before .before .before .before .before in
+    let a = s .args in
+    asked-by (a .settings) (a .keys) (a .purse) (a .log) (a .channel) (a .ins) (now (a .x)) (c .before .before .before .before .before .before .before .before .before .before .before .before .before .before .before .before .before .before .before .before .byte-at .ensures) (c .before .before .before .before .before .before .before .before .before .before .before .before .before .before .before .before .before .before .before .acting .ensures) (c .before .before .before .before .before .before .before .before .before .before .before .before .before .before .before .before .before .before .access-to .ensures) (c .before .before .before .before .before .before .before .before .before .before .before .before .before .before .before .before .before .is-maced .ensures) (c .before .before .before .before .before .before .before .before .before .before .before .before .before .before .before .before .plain .ensures) (c .before .before .before .before .before .before .before .before .before .before .before .before .before .before .before .unknown-command .ensures) (c .before .before .before .before .before .before .before .before .before .before .before .before .before .before .interrupts .ensures) (c .before .before .before .before .before .before .before .before .before .before .before .before .before .wrong-length .ensures) (c .before .before .before .before .before .before .before .before .before .before .before .before .lacks-mac .ensures) (c .before .before .before .before .before .before .before .before .before .before .before .unknown-file .ensures) (c .before .before .before .before .before .before .before .before .before .before .other-kind-or-never .ensures) (c .before .before .before .before .before .before .before .before .before .not-granted .ensures) (c .before .before .before .before .before .before .before .before .part-fails .ensures) (c .before .before .before .before .before .before .before .is-forged .ensures) (c .before .before .before .before .before .before .used-up .ensures) (c .before .before .before .before .before .switched-off .ensures) (c .before .before .before .before .bad-parameter .ensures) (c .before .before .before .is-outside .ensures) (c .before .before .is-long-read .ensures) (c .nothing-pending .ensures)
 
 pub asked-spec : {M : Type 1} → statement M
 asked-spec =
     tie.close
     (tie.spec
     byte-at-requires
+    acting-requires
     access-to-requires
+    is-maced-requires
+    plain-requires
     unknown-command-requires
+    interrupts-requires
     wrong-length-requires
+    lacks-mac-requires
     unknown-file-requires
     other-kind-or-never-requires
     not-granted-requires
+    part-fails-requires
+    is-forged-requires
+    used-up-requires
     switched-off-requires
     bad-parameter-requires
     is-outside-requires
+    is-long-read-requires
     nothing-pending-requires
     returns)

@@ -12,9 +12,27 @@ cast-with-bytes c = search needs
 add-with-bytes : tie.Need-add-with-bytes
 add-with-bytes c = search needs
 
+byte-at-requires : tie.Need-byte-at-requires
+byte-at-requires c κs = tt
+
+cast-with-caps : tie.Need-cast-with-caps
+cast-with-caps c = search needs
+
+add-with-caps : tie.Need-add-with-caps
+add-with-caps c = search needs
+
 returns : tie.Need-returns
 unfolding lengthCases
-returns c = simp (c .le3-at .ensures)
+returns c = simp (c .before .le3-at .ensures, c .byte-at .ensures)
 
 pub wrong-length-spec : {M : Type 1} → statement M
-wrong-length-spec = tie.close (tie.spec le3-at-requires cast-with-bytes add-with-bytes returns)
+wrong-length-spec =
+    tie.close
+    (tie.spec
+    le3-at-requires
+    cast-with-bytes
+    add-with-bytes
+    byte-at-requires
+    cast-with-caps
+    add-with-caps
+    returns)

@@ -12,11 +12,15 @@ settings-in-requires c κs = search needs
 signed-at-requires : tie.Need-signed-at-requires
 signed-at-requires c κs = search needs
 
+keys-in-requires : tie.Need-keys-in-requires
+keys-in-requires c κs = search needs
+
 returns : tie.Need-returns
 unfolding orderIn
 returns c =
-    let f : SFits w32 (c .signed-at .result) = search needs in
-    rw (c .before .settings-in .ensures, toZ-ofZ f, c .signed-at .ensures)
+    let v = c .before in
+    let f : SFits w32 (v .signed-at .result) = search needs in
+    rw (v .before .settings-in .ensures, toZ-ofZ f, v .signed-at .ensures, c .keys-in .ensures)
 
 pub read-spec : {M : Type 1} → statement M
-read-spec = tie.close (tie.spec settings-in-requires signed-at-requires returns)
+read-spec = tie.close (tie.spec settings-in-requires signed-at-requires keys-in-requires returns)

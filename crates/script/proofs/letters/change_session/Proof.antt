@@ -11,7 +11,7 @@ change-session-requires c κs = tt
 
 returns : tie.Need-returns
 unfolding saidOf textOf counted withCard replyOf
-returns c = let k = c .before .before .before .args .desk in ap (λ (x : Reply). record { desk = record { card = x .card; room = k .room; bench = k .bench }; out = numbered (x .refusal) }) (c .before .change-session .ensures)
+returns c = let k = c .before .before .before .args .desk in ap (λ (x : Reply). record { desk = withCard k (x .card); out = numbered (x .refusal) }) (c .before .change-session .ensures)
 
 pub change-session-spec : {M : Type 1} → statement M
 change-session-spec = tie.close (tie.spec change-session-requires returns)

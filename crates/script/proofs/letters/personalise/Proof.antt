@@ -21,12 +21,12 @@ personalise-requires c κs = tt
 returns : tie.Need-returns
 unfolding saidOf textOf counted withCard replyOf
 returns c =
-    let k = c .before .before .before .before .before .before .args .desk in
-    let o = c .before .before .before .before .read in
+    let k = c .before .before .before .before .before .before .before .args .desk in
+    let o = c .before .before .before .before .before .read in
     let f : SFits w32 (o .result .value) = search needs in
-    let v = ap (λ z. replyOf (personalised (o .result .settings) z)) (toZ-ofZ f) in
-    let e = c .before .personalise .ensures ∙ (v ∙ ap (λ (x : Order). replyOf (personalised (x .settings) (x .value))) (o .ensures)) in
-    ap (λ (x : Reply). record { desk = record { card = x .card; room = k .room; bench = k .bench }; out = numbered (x .refusal) }) e
+    let v = ap (λ z. replyOf (personalised (o .result .settings) (o .result .keys) z)) (toZ-ofZ f) in
+    let e = c .before .personalise .ensures ∙ (v ∙ ap (λ (x : Order). replyOf (personalised (x .settings) (x .keys) (x .value))) (o .ensures)) in
+    ap (λ (x : Reply). record { desk = withCard k (x .card); out = numbered (x .refusal) }) e
 
 pub personalise-spec : {M : Type 1} → statement M
 personalise-spec = tie.close (tie.spec read-requires personalise-requires returns)

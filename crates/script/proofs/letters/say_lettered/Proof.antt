@@ -3,6 +3,8 @@ use Rattle.script.specs.Lines.{letteredBy}
 use Rattle.text.specs.Hex.{isHex}
 use Rattle.text.specs.Laws.{leading-most, hex-test}
 use Rattle.wire.specs.Bytes.{part}
+use Rattle.wire.specs.Laws.{length-part}
+use borrow.Author.Tests.{eqb-true}
 use lib.Dec.{eqb}
 use lib.ListN.{length}
 use Prim.Native.Nat.{_*_}
@@ -37,7 +39,11 @@ part-say-spelt-end c =
     omega arith
 
 say-spelt-requires : tie.Need-say-spelt-requires
-say-spelt-requires c κs = tt
+say-spelt-requires c κs e =
+    let s = c .before .before .before .before .before .before .before .before in
+    let w = c .before .before .before .before .spell in
+    let q = spelt-behind (now (s .args .rest)) (now (s .args .bytes)) _ _ (s .pre .0) (s .pre .1) (w .ensures) in
+    omega (arith, eqb-true (2 * w .result) (length (now (s .args .rest))) e, length-part (w .last .1 .0) 0 (w .result) (q .1))
 
 same-length : tie.Need-same-length
 same-length c = search needs

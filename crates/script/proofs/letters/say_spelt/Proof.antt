@@ -1,7 +1,11 @@
 use Rattle.script.specs.Lines.{saidOf, textOf, unread, counted, lent, bookKept, letteredBy}
 use Rattle.access.specs.declared.Session.the-variants.{Key}
 use Rattle.card.specs.Events.{sessionChanged}
-use Rattle.tables.specs.Choice.{order}
+use Rattle.tables.specs.Choice.{order, and-yes}
+use borrow.Author.Tests.{eqb-true}
+use lib.Dec.{eqb}
+use native.Mathlib.Omega.{arith}
+use mathlib.Core.Bool.{_&&_}
 use mathlib.Core.Path.{ap, _∙_}
 use Rattle.script.proofs.letters.say_spelt.Statement.{statement}
 use Rattle.script.proofs.letters.say_spelt.Tie as tie
@@ -42,13 +46,24 @@ returns-4 : tie.Need-returns-4
 unfolding letteredBy
 returns-4 c = c .lend .ensures ∙ (ap (lent (c .before .before .before .before .before .before .before .args .desk)) (c .before .length-in .ensures) ∙ search order depth 9)
 
+hand-in-requires : tie.Need-hand-in-requires
+hand-in-requires c κs =
+    let s = c .before .before .before .before .before .before in
+    let t = and-yes (eqb (s .args .letter) 0x4E && eqb (s .args .n) 40) (s .args .digits) (c .if5 .taken) in
+    let n = and-yes (eqb (s .args .letter) 0x4E) (eqb (s .args .n) 40) (t .0) in
+    omega (arith, eqb-true (s .args .n) 40 (n .1), s .pre (t .1))
+
 returns-5 : tie.Need-returns-5
-unfolding letteredBy saidOf textOf bookKept
-returns-5 c = search order depth 9
+unfolding letteredBy
+returns-5 c = c .hand-in .ensures ∙ search order depth 10
 
 returns-6 : tie.Need-returns-6
+unfolding letteredBy saidOf textOf bookKept
+returns-6 c = search order depth 10
+
+returns-7 : tie.Need-returns-7
 unfolding letteredBy saidOf textOf unread
-returns-6 c = search order depth 9
+returns-7 c = search order depth 10
 
 pub say-spelt-spec : {M : Type 1} → statement M
 say-spelt-spec =
@@ -64,5 +79,7 @@ say-spelt-spec =
     length-in-requires
     lend-requires
     returns-4
+    hand-in-requires
     returns-5
-    returns-6)
+    returns-6
+    returns-7)

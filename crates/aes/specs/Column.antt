@@ -1,0 +1,12 @@
+-- What one column gives, and the products that a byte of InvMixColumns is made of.
+use Prim.Native.Nat.{ℕ}
+use mathlib.Core.List.{List, [], _∷_}
+use Rattle.field.specs.Field.{_•_}
+
+-- a function of a column's bytes from each row down and round
+abbrev pub column : (ℕ → ℕ → ℕ → ℕ → ℕ) → ℕ → ℕ → ℕ → ℕ → List ℕ
+column f a b c d = f a b c d ∷ f b c d a ∷ f c d a b ∷ f d a b c ∷ []
+
+-- a byte times x, x^2 and x^3
+abbrev pub multiples : ℕ → List ℕ
+multiples a = 0x02 • a ∷ 0x04 • a ∷ 0x08 • a ∷ []

@@ -1,0 +1,11 @@
+use Rattle.channel.specs.Channel.{bare}
+use mathlib.Core.Path.{refl}
+use Rattle.channel.proofs.Channel.bare.Statement.{statement}
+use Rattle.channel.proofs.Channel.bare.Tie as tie
+
+returns : tie.Need-returns
+unfolding bare
+returns c = refl
+
+pub bare-spec : {M : Type 1} → statement M
+bare-spec = tie.close (tie.spec returns)

@@ -1,0 +1,75 @@
+-- How far a session has come, and the bytes that terminal and card then know.
+use Prim.Native.Nat.{ℕ, _+_, _%_}
+use mathlib.Core.Bool.{Bool, true, false}
+use lib.Dec.{leb, eqb}
+use lib.ListN.{replicate}
+use Rattle.access.specs.declared.Session.{Session}
+use Rattle.access.specs.declared.Session.the-variants.{Nobody, Key}
+use Rattle.channel.specs.declared.Stage.{Stage}
+use Rattle.channel.specs.declared.Stage.the-variants.{Closed, Bench, Waiting, Real}
+use Rattle.channel.specs.declared.Channel.{Channel}
+
+-- a session of the bench stays plain
+abbrev pub stageOf : Session → Stage
+stageOf Nobody = Closed
+stageOf (Key k) = Bench k
+
+-- the session that access is decided by; between the two parts of an authentication there is none
+abbrev pub actingOf : Stage → Session
+actingOf Closed = Nobody
+actingOf (Bench k) = Key k
+actingOf (Waiting k) = Nobody
+actingOf (Real k n) = Key k
+
+-- its key is 0 to 4; a real session and a waiting first part never hold together, by the type
+abbrev pub stageSound : Stage → Bool
+stageSound Closed = true
+stageSound (Bench k) = leb k 4
+stageSound (Waiting k) = leb k 4
+stageSound (Real k n) = leb k 4
+
+-- a first part waits for its second
+abbrev pub isWaiting : Stage → Bool
+isWaiting Closed = false
+isWaiting (Bench k) = false
+isWaiting (Waiting k) = true
+isWaiting (Real k n) = false
+
+-- opened by AuthenticateEV2First
+abbrev pub isReal : Stage → Bool
+isReal Closed = false
+isReal (Bench k) = false
+isReal (Waiting k) = false
+isReal (Real k n) = true
+
+-- the key of a real session or a waiting first part; 0 without one
+abbrev pub stageKey : Stage → ℕ
+stageKey Closed = 0
+stageKey (Bench k) = 0
+stageKey (Waiting k) = k
+stageKey (Real k n) = k
+
+-- the command counter; 0 without one
+abbrev pub counterOf : Stage → ℕ
+counterOf Closed = 0
+counterOf (Bench k) = 0
+counterOf (Waiting k) = 0
+counterOf (Real k n) = n
+
+-- an accepted command in a real session moves the counter up by one, in its two bytes; at FFFFh none is accepted
+abbrev pub countedUp : Stage → Stage
+countedUp Closed = Closed
+countedUp (Bench k) = Bench k
+countedUp (Waiting k) = Waiting k
+countedUp (Real k n) = Real k ((n + 1) % 65536)
+
+unfoldable pub counted : Channel → Channel
+counted c = record { stage = countedUp (c .stage); secret = c .secret; ti = c .ti; caps = c .caps }
+
+-- the stage with zero bytes beside it
+unfoldable pub bare : Stage → Channel
+bare g = record { stage = g; secret = replicate 16 0; ti = replicate 4 0; caps = replicate 6 0 }
+
+-- no session, and nothing that one left
+abbrev pub closed : Channel
+closed = bare Closed

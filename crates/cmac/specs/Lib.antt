@@ -1,0 +1,3 @@
+pub mod Cmac
+pub mod Laws
+pub mod Fed

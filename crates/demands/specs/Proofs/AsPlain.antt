@@ -1,0 +1,301 @@
+-- What a MACed command does is what the same command does plain.
+use Prim.Native.Nat.{ℕ, _+_, _-_, _%_, _≤_}
+use mathlib.Core.Bool.{Bool, true, false, not, _&&_, _||_, true≢false}
+use mathlib.Core.List.{List, [], _∷_, _++_, append-assoc}
+use mathlib.Core.Logic.{_↔_}
+use mathlib.Core.Path.{_≡_, refl, sym, ap, subst, _∙_}
+use native.Mathlib.Omega.{arith}
+use borrow.Author.Tests.{eqb-true, eq-eqb, ne-eqb, le-ltb, not-false}
+use lib.Dec.{eqb, leb, ltb}
+use lib.ListN.{length, getD, take, drop, length-append}
+use lib.Seq.{take-at, drop-at}
+use Rattle.tables.specs.Choice.{pick, none, or-no, or-none, and-left, and-right, and-both}
+use Rattle.tables.specs.Reasons.{NoReason, none-first}
+use Rattle.wire.specs.Bytes.{word, same, le3}
+use Rattle.wire.specs.Same.{same-equal}
+use Rattle.access.specs.declared.Access.{Access}
+use Rattle.channel.specs.declared.Inputs.{Inputs}
+use Rattle.channel.specs.declared.Stage.{Stage}
+use Rattle.channel.specs.declared.Stage.the-variants.{Bench, Real}
+use Rattle.channel.specs.Channel.{isReal, counterOf, countedUp, counted, bare}
+use Rattle.sealing.specs.Sealing.{sealOf}
+use Rattle.frames.specs.Frame.{insOf, dataOf, fileOf, wrongSize, wrongClass, wrongParameters, wrongFrame}
+use Rattle.columns.specs.Table.{readData, writeData, getValue, credit, debit, limitedCredit, readRecords, writeRecord, clearRecordFile, getFileSettings, authenticateFirst, authenticateSecond, onData, onValue, onLog, onFile, namesFile, ends, isBase}
+use Rattle.commands.specs.State.{Core, State, logPending}
+use Rattle.commands.specs.Modes.{accessFor, macedUnder, plainOf, macOf}
+use Rattle.commands.specs.Rows.{unknownCommand, interrupts, lengthCases, wrongLength, lacksMac, unknownFile, otherKindOrNever, notGranted, partFails, forged, usedUp, switchedOff, badParameter, outside, longRead, nothingPending, macedIn, rowsUnder, rowsOf, ok, statusOf}
+use Rattle.commands.specs.Laws.{clear}
+use Rattle.card.specs.declared.Card.{Card}
+use Rattle.card.specs.View.{view, put, broken, onChannel}
+use Rattle.card.specs.Outcome.{Outcome}
+use Rattle.card.specs.Events.{channelAfter, changed, macBehind, acceptedPlain, accepted, laidInto}
+use Rattle.card.specs.Accepted.{baseShown, base-channel, base-accepted}
+use Rattle.card.specs.Laws.{command-plays, plays-accepted}
+use Rattle.standing.specs.Rules.{brokenBy}
+use Rattle.settings.specs.declared.Settings.{Settings}
+use Rattle.keys.specs.declared.Keys.{Keys}
+use Rattle.purse.specs.declared.Purse.{Purse}
+use Rattle.logbook.specs.Journal.{Journal}
+use Rattle.logbook.specs.View as log
+use Rattle.till.specs.Till.{sealed, sealable}
+use Rattle.till.specs.Laws.{length-seal, length-data, sealable-yes}
+use Rattle.demands.specs.Demands.{Kept, rowsFor}
+use Rattle.demands.specs.Sessions.{sends, macedFrame, onBench, SealedAsPlain, Sealable, AsPlain}
+use Rattle.demands.specs.Laws.Inside.{or-false-false}
+use Rattle.demands.specs.Laws.Framed.{framed, framed-length, header}
+use Rattle.demands.specs.Proofs.LetIn.{Sent, framed-sent}
+
+-- ---- a command in MAC mode
+
+-- it is a base command
+maced-base : (a : Access) (s : Settings) (g : Stage) (i j : ℕ) (x : List ℕ) → macedUnder a s g i x ≡ true → macedUnder a s g j x ≡ false → eqb i j ≡ false
+maced-base a s g i j x m n = by (eqb i j) refl
+  where
+    by : (b : Bool) → eqb i j ≡ b → b ≡ false
+    by false e = refl
+    by true e = absurd (true≢false (sym m ∙ ap (λ (l : ℕ). macedUnder a s g l x) (eqb-true i j e) ∙ n))
+
+first-none : (a : Access) (s : Settings) (g : Stage) (x : List ℕ) → macedUnder a s g authenticateFirst x ≡ false
+unfolding macedUnder onFile
+first-none a s g x = and-right (isReal g) false refl
+
+second-none : (a : Access) (s : Settings) (g : Stage) (x : List ℕ) → macedUnder a s g authenticateSecond x ≡ false
+unfolding macedUnder onFile
+second-none a s g x = and-right (isReal g) false refl
+
+-- without a data field it names no file
+and-true : (b : Bool) → (b && true) ≡ false → b ≡ false
+and-true false e = refl
+and-true true e = e
+
+names-none : (i : ℕ) → wrongLength i [] ≡ false → namesFile i ≡ false
+unfolding lengthCases le3 namesFile onFile
+names-none i e =
+    let (a, (b, (c, (d, (f, (g, (h, (j, (k, (l, (m, (n, o)))))))))))) = none (lengthCases i []) e in
+    simp (and-true (eqb i readData) a, and-true (eqb i writeData) b, and-true (eqb i getValue) c, and-true (eqb i credit) d, and-true (eqb i debit) f, and-true (eqb i limitedCredit) g, and-true (eqb i readRecords) h, and-true (eqb i writeRecord) j, and-true (eqb i clearRecordFile) k, and-true (eqb i getFileSettings) n)
+
+-- places 7 to 9 do not see what stands behind the data field
+file-rows : (s : Settings) (g : Stage) (i : ℕ) (d t : List ℕ) → wrongLength i d ≡ false
+    → (unknownFile i (fileOf (d ++ t)) ≡ unknownFile i (fileOf d))
+    × (otherKindOrNever i (fileOf (d ++ t)) (accessFor s g i (d ++ t)) ≡ otherKindOrNever i (fileOf d) (accessFor s g i d))
+    × (notGranted i (accessFor s g i (d ++ t)) ≡ notGranted i (accessFor s g i d))
+unfolding unknownFile otherKindOrNever notGranted
+file-rows s g i [] t l =
+    let n = names-none i l in
+    let o : onFile i ≡ false = unfold namesFile in or-no (onFile i) _ n .0 in
+    (rw n refl, rw o refl, rw o refl)
+file-rows s g i (a ∷ d) t l = (refl, refl, refl)
+
+-- ---- the rows on both cards
+
+module _ (s : Settings) (ks : Keys) (p : Purse) (j : Journal) (secret ti caps : List ℕ) (k n : ℕ) where
+  -- under the real session, and under the bench's
+  abbrev real : Core
+  real = record { settings = s; keys = ks; purse = p; journal = j; channel = record { stage = Real k n; secret = secret; ti = ti; caps = caps } }
+
+  abbrev benched : Core
+  benched = record { settings = s; keys = ks; purse = p; journal = j; channel = bare (Bench k) }
+
+  module _ (f g : List ℕ) (i : ℕ) (d : List ℕ) (sf : Sent f i d) (sg : Sent g i (d ++ sealOf secret i n ti d)) (m : macedIn real i (d ++ sealOf secret i n ti d) ≡ true) where
+    abbrev t : List ℕ
+    t = sealOf secret i n ti d
+
+    abbrev x : List ℕ
+    x = d ++ t
+
+    size : length x - 8 ≡ length d
+    size = let l = length-append d t in omega (arith, l, length-seal secret i n ti d)
+
+    plain : plainOf true x ≡ d
+    unfolding plainOf pick
+    plain = ap (λ (z : ℕ). take z x) size ∙ take-at d t (length d) refl
+
+    mac : macOf x ≡ t
+    unfolding macOf
+    mac = ap (λ (z : ℕ). drop z x) size ∙ drop-at d t (length d) refl
+
+    no-first : eqb i authenticateFirst ≡ false
+    no-first = maced-base _ s (Real k n) i authenticateFirst x m (first-none _ s (Real k n) x)
+
+    no-second : eqb i authenticateSecond ≡ false
+    no-second = maced-base _ s (Real k n) i authenticateSecond x m (second-none _ s (Real k n) x)
+
+    real-rows : rowsOf real g (insOf g) (dataOf g) ≡ rowsUnder (accessFor s (Real k n) i x) true real g i x d
+    unfolding rowsOf
+    real-rows = rw (sg .ins, sg .field, m, plain) refl
+
+    bench-rows : rowsOf benched f (insOf f) (dataOf f) ≡ rowsUnder (accessFor s (Bench k) i d) false benched f i d d
+    unfolding rowsOf macedUnder plainOf pick bare
+    bench-rows = rw (sf .ins, sf .field) refl
+
+    -- what both sides ask of the plain data field
+    abbrev Shared : Type 0
+    Shared = (unknownCommand (Bench k) i ≡ false) × (wrongLength i d ≡ false) × (unknownFile i (fileOf d) ≡ false)
+        × (otherKindOrNever i (fileOf d) (accessFor s (Bench k) i d) ≡ false) × (notGranted i (accessFor s (Bench k) i d) ≡ false)
+        × (switchedOff i (s .limited) (j .clears) ≡ false) × (badParameter i d ≡ false)
+        × (outside (s .limits) p (length (j .entries)) i d ≡ false) × (nothingPending i (p .moved) (logPending j) ≡ false)
+
+    bench-ok : Shared → statusOf benched f ≡ ok
+    unfolding statusOf interrupts lacksMac partFails forged usedUp longRead bare
+    bench-ok h =
+        none-first (rowsOf benched f (insOf f) (dataOf f)) ok
+        (subst NoReason (sym bench-rows)
+        (sf .size, (sf .class, (sf .parameters, (sf .frame, (h .0, (refl, (or-none (wrongLength i d) _ (h .1) refl, (h .2, (h .3, (or-none (notGranted i (accessFor s (Bench k) i d)) _ (h .4) (and-left (eqb i authenticateSecond) _ no-second), (and-right (isBase i) false refl, (h .5, (h .6, (or-none (outside (s .limits) p (length (j .entries)) i d) _ (h .7) (and-right (eqb i readData) _ refl), (h .8, tt))))))))))))))))
+
+    bench-shared : statusOf benched f ≡ ok → Shared
+    unfolding bare
+    bench-shared e =
+        let (a1, (a2, (a3, (a4, (a5, (a6, (a7, (a8, (a9, (a10, (a11, (a12, (a13, (a14, (a15, z))))))))))))))) = subst NoReason bench-rows (clear benched f e) in
+        (a5, or-no (wrongLength i d) _ a7 .0, a8, a9, or-no (notGranted i (accessFor s (Bench k) i d)) _ a10 .0, a12, a13, or-no (outside (s .limits) p (length (j .entries)) i d) _ a14 .0, a15)
+
+    mac-right : forged (real .channel) true i x ≡ false
+    unfolding forged
+    mac-right = rw (mac, plain) (ap not (same-equal t t refl))
+
+    real-ok : Shared → (n ≡ 0xFFFF → ⊥) → longRead true i d ≡ false → statusOf real g ≡ ok
+    unfolding statusOf unknownCommand interrupts lacksMac partFails usedUp
+    real-ok h few short =
+        let q = file-rows s (Real k n) i d t (h .1) in
+        let lx = length-append d t in
+        let lt = length-seal secret i n ti d in
+        none-first (rowsOf real g (insOf g) (dataOf g)) ok
+        (subst NoReason (sym real-rows)
+        (sg .size, (sg .class, (sg .parameters, (sg .frame, (h .0, (refl, (or-none (wrongLength i d) _ (h .1) (le-ltb (length x) 8 (omega arith)), (q .0 ∙ h .2, (q .1 ∙ h .3, (or-none (notGranted i (accessFor s (Real k n) i x)) _ (q .2 ∙ h .4) (and-left (eqb i authenticateSecond) _ no-second), (or-none (forged (real .channel) true i x) _ mac-right (and-right (isBase i) _ (ne-eqb n 0xFFFF few)), (h .5, (h .6, (or-none (outside (s .limits) p (length (j .entries)) i d) _ (h .7) short, (h .8, tt))))))))))))))))
+
+    not-used : unknownCommand (Real k n) i ≡ false → usedUp (Real k n) i ≡ false → n ≡ 0xFFFF → ⊥
+    unfolding unknownCommand usedUp
+    not-used known used e =
+        let q : (isBase i || eqb i authenticateFirst || (eqb i authenticateSecond && false)) ≡ true = not-false _ known in
+        let b : isBase i ≡ true = or-false-false (isBase i) (rw (no-first, no-second) at q) in
+        true≢false (sym (and-both (isBase i) (eqb n 0xFFFF) b (eq-eqb n 0xFFFF e)) ∙ used)
+
+    real-shared : statusOf real g ≡ ok → Shared × (n ≡ 0xFFFF → ⊥) × (longRead true i d ≡ false)
+    unfolding unknownCommand
+    real-shared e =
+        let (a1, (a2, (a3, (a4, (a5, (a6, (a7, (a8, (a9, (a10, (a11, (a12, (a13, (a14, (a15, z))))))))))))))) = subst NoReason real-rows (clear real g e) in
+        let l = or-no (wrongLength i d) _ a7 .0 in
+        let q = file-rows s (Real k n) i d t l in
+        let inside = or-no (outside (s .limits) p (length (j .entries)) i d) _ a14 in
+        ((a5, l, sym (q .0) ∙ a8, sym (q .1) ∙ a9, sym (q .2) ∙ or-no (notGranted i (accessFor s (Real k n) i x)) _ a10 .0, a12, a13, inside .0, a15), not-used a5 (or-no (forged (real .channel) true i x) _ a11 .1), inside .1)
+
+    pub same-status : (statusOf real g ≡ ok) ↔ ((statusOf benched f ≡ ok) × (n ≡ 0xFFFF → ⊥) × (longRead true i d ≡ false))
+    same-status = (λ e. let h = real-shared e in (bench-ok (h .0), h .1, h .2), λ h. real-ok (bench-shared (h .0)) (h .1) (h .2))
+
+-- ---- on a card
+
+module _ (c : Card) (k n : ℕ) (h : Kept c) (eg : c .channel .stage ≡ Real k n) (f : List ℕ) (sealing : Sealable c f) where
+  abbrev ins : ℕ
+  ins = insOf f
+
+  abbrev field : List ℕ
+  field = dataOf f
+
+  abbrev sealBytes : List ℕ
+  sealBytes = sealOf (c .channel .secret) ins n (c .channel .ti) field
+
+  abbrev frame : List ℕ
+  frame = macedFrame c f
+
+  core-real : view c .core ≡ real (c .settings) (c .keys) (c .purse) (log.view (c .log)) (c .channel .secret) (c .channel .ti) (c .channel .caps) k n
+  unfolding view
+  core-real = λ i. record { settings = c .settings; keys = c .keys; purse = c .purse; journal = log.view (c .log); channel = record { stage = eg i; secret = c .channel .secret; ti = c .channel .ti; caps = c .channel .caps } }
+
+  plain-sent : Sent f ins field
+  unfolding rowsOf
+  plain-sent = let r = sealing .framed in record { size = r .0; class = r .1 .0; parameters = r .1 .1 .0; frame = r .1 .1 .1 .0; ins = refl; field = refl }
+
+  -- the frame with its MAC, part by part
+  maced-framed : frame ≡ framed ins (field ++ sealBytes)
+  unfolding sealed
+  maced-framed =
+      let s = plain-sent in
+      let l : length field + 8 ≡ length (field ++ sealBytes) = sym (length-append field sealBytes ∙ ap (λ (z : ℕ). length field + z) (length-seal _ ins n (c .channel .ti) field)) in
+      rw (eg, header f (s .size) (s .class) (s .parameters), l) refl
+
+  maced-sent : Sent frame ins (field ++ sealBytes)
+  maced-sent =
+      let l = length-append field sealBytes in
+      let z = length-seal (c .channel .secret) ins n (c .channel .ti) field in
+      let t = sealable-yes f (sealing .takes) in
+      let d = length-data f in
+      framed-sent ins (field ++ sealBytes) frame maced-framed (omega arith) (omega arith)
+
+  in-mode : macedIn (view c .core) ins (field ++ sealBytes) ≡ true
+  in-mode = ap (macedIn (view c .core) ins) (sym (maced-sent .field)) ∙ sealing .mode
+
+  mode : macedIn (real (c .settings) (c .keys) (c .purse) (log.view (c .log)) (c .channel .secret) (c .channel .ti) (c .channel .caps) k n) ins (field ++ sealBytes) ≡ true
+  mode = subst (λ (x : Core). macedIn x ins (field ++ sealBytes) ≡ true) core-real in-mode
+
+  abbrev Status : Core → Core → Type 0
+  Status x y = (statusOf x frame ≡ ok) ↔ ((statusOf y f ≡ ok) × (n ≡ 0xFFFF → ⊥) × (longRead true ins field ≡ false))
+
+  accepted-alike : Status (view c .core) (view (onBench c k) .core)
+  accepted-alike =
+      subst (λ (x : Core). Status x (view (onBench c k) .core)) (sym core-real)
+      (unfold view onChannel in same-status (c .settings) (c .keys) (c .purse) (log.view (c .log)) (c .channel .secret) (c .channel .ti) (c .channel .caps) k n f frame ins field plain-sent maced-sent mode)
+
+  bench-kept : broken (onBench c k) ≡ false
+  unfolding onChannel brokenBy bare
+  bench-kept = subst (λ (g : Stage). brokenBy (c .settings) (c .purse) (c .log) g ≡ false) eg (h .rules)
+
+  first-not : eqb ins authenticateFirst ≡ false
+  first-not = no-first (c .settings) (c .keys) (c .purse) (log.view (c .log)) (c .channel .secret) (c .channel .ti) (c .channel .caps) k n f frame ins field plain-sent maced-sent mode
+
+  second-not : eqb ins authenticateSecond ≡ false
+  second-not = no-second (c .settings) (c .keys) (c .purse) (log.view (c .log)) (c .channel .secret) (c .channel .ti) (c .channel .caps) k n f frame ins field plain-sent maced-sent mode
+
+  module _ (u : Inputs) (e : statusOf (view c .core) frame ≡ ok) where
+    abbrev shownData : List ℕ
+    shownData = baseShown (view c) ins field
+
+    maced-sends : sends c frame u ≡ laidInto c (record { state = changed (view c) u ins field; out = shownData ++ (macBehind true (counted (c .channel)) shownData ++ word ok) })
+    maced-sends =
+        let plays : accepted (view c) u (insOf frame) (dataOf frame) ≡ acceptedPlain true (view c) u ins field = unfold accepted in rw (maced-sent .ins, maced-sent .field, in-mode, plain (c .settings) (c .keys) (c .purse) (log.view (c .log)) (c .channel .secret) (c .channel .ti) (c .channel .caps) k n f frame ins field plain-sent maced-sent mode) refl in
+        sym (command-plays c frame u 258 (omega arith) (h .rules)) ∙ sym (plays-accepted c frame u e)
+        ∙ ap (laidInto c) (plays ∙ sym (unfold view in base-accepted ins first-not second-not true (view c) u field))
+
+    bench-plain : macedIn (view (onBench c k) .core) ins field ≡ false
+    unfolding view onChannel bare macedUnder
+    bench-plain = refl
+
+    bench-plays : acceptedPlain false (view (onBench c k)) u ins field ≡ accepted (view (onBench c k)) u ins field
+    unfolding accepted plainOf pick
+    bench-plays = rw bench-plain refl
+
+    bench-out : record { state = changed (view (onBench c k)) u ins field; out = baseShown (view (onBench c k)) ins field ++ word ok } ≡ acceptedPlain false (view (onBench c k)) u ins field
+    unfolding macBehind pick
+    bench-out = base-accepted ins first-not second-not false (view (onBench c k)) u field
+
+    plain-sends : sends (onBench c k) f u ≡ laidInto (onBench c k) (record { state = changed (view (onBench c k)) u ins field; out = baseShown (view (onBench c k)) ins field ++ word ok })
+    plain-sends =
+        sym (command-plays (onBench c k) f u 258 (omega arith) bench-kept) ∙ sym (plays-accepted (onBench c k) f u (accepted-alike .0 e .0)) ∙ ap (laidInto (onBench c k)) (sym (bench-out ∙ bench-plays))
+
+    same-files : sends c frame u .card .files ≡ sends (onBench c k) f u .card .files
+    unfolding laidInto put changed view onChannel
+    same-files = ap (λ (o : Outcome). o .card .files) maced-sends ∙ sym (ap (λ (o : Outcome). o .card .files) plain-sends)
+
+    same-purse : sends c frame u .card .purse ≡ sends (onBench c k) f u .card .purse
+    unfolding laidInto put changed view onChannel
+    same-purse = ap (λ (o : Outcome). o .card .purse) maced-sends ∙ sym (ap (λ (o : Outcome). o .card .purse) plain-sends)
+
+    same-log : sends c frame u .card .log ≡ sends (onBench c k) f u .card .log
+    unfolding laidInto put changed view onChannel
+    same-log = ap (λ (o : Outcome). o .card .log) maced-sends ∙ sym (ap (λ (o : Outcome). o .card .log) plain-sends)
+
+    plain-out : sends (onBench c k) f u .out ≡ shownData ++ word ok
+    unfolding laidInto view onChannel
+    plain-out = ap (λ (o : Outcome). o .out) plain-sends
+
+    maced-out : sends c frame u .out ≡ shownData ++ (sealOf (c .channel .secret) 0x00 ((n + 1) % 65536) (c .channel .ti) shownData ++ word ok)
+    unfolding laidInto macBehind counted pick
+    maced-out = ap (λ (o : Outcome). o .out) maced-sends ∙ ap (λ (g : Stage). shownData ++ (sealOf (c .channel .secret) 0x00 (counterOf (countedUp g)) (c .channel .ti) shownData ++ word ok)) eg
+
+pub sealed-as-plain : AsPlain
+sealed-as-plain c k n h eg f sealing u =
+    record {
+      accepted = accepted-alike c k n h eg f sealing;
+      files = same-files c k n h eg f sealing u;
+      purse = same-purse c k n h eg f sealing u;
+      log = same-log c k n h eg f sealing u;
+      reply = λ e. (baseShown (view c) (insOf f) (dataOf f), plain-out c k n h eg f sealing u e, maced-out c k n h eg f sealing u e);
+    }

@@ -1,0 +1,19 @@
+use Rattle.drafts.specs.Drafts.{raised}
+use Rattle.tables.specs.Choice.{choice}
+use borrow.Author.Needs.{needs}
+use Rattle.drafts.proofs.parts.raised.Statement.{statement}
+use Rattle.drafts.proofs.parts.raised.Tie as tie
+
+add-result : tie.Need-add-result
+add-result c = search needs
+
+returns : tie.Need-returns
+unfolding raised
+returns c = search choice
+
+returns-2 : tie.Need-returns-2
+unfolding raised
+returns-2 c = search choice
+
+pub raised-spec : {M : Type 1} → statement M
+raised-spec = tie.close (tie.spec add-result returns returns-2)

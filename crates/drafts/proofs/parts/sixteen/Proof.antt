@@ -1,0 +1,34 @@
+use Rattle.drafts.proofs.Steps.{part-whole}
+use Prim.Native.Nat.{_+_, _-_}
+use mathlib.Core.Path.{_≡_, _∙_}
+use native.Mathlib.Omega.{arith}
+use denote.Ref.{now}
+use borrow.Author.Needs.{needs}
+use Rattle.drafts.proofs.parts.sixteen.Statement.{statement}
+use Rattle.drafts.proofs.parts.sixteen.Tie as tie
+
+slice-aggregate-lay : tie.Need-slice-aggregate-lay
+slice-aggregate-lay c = search needs
+
+add-lay : tie.Need-add-lay
+add-lay c = search needs
+
+sub-lay : tie.Need-sub-lay
+sub-lay c = search needs
+
+part-lay-start : tie.Need-part-lay-start
+part-lay-start c = search needs
+
+part-lay-end : tie.Need-part-lay-end
+part-lay-end c = search needs
+
+lay-requires : tie.Need-lay-requires
+lay-requires c κs = search needs
+
+returns : tie.Need-returns
+returns c = let a = c .before .before .before .before .before .args in let l : a .at + 16 - a .at ≡ 16 = omega arith in c .before .lay .ensures ∙ part-whole 16 (now (a .b)) (a .at) (a .at + 16) (c .before .before .before .before .before .pre) l
+
+pub sixteen-spec : {M : Type 1} → statement M
+sixteen-spec =
+    tie.close
+    (tie.spec slice-aggregate-lay add-lay sub-lay part-lay-start part-lay-end lay-requires returns)

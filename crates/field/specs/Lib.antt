@@ -1,0 +1,6 @@
+pub mod Field
+pub mod Bytes
+pub mod Every
+pub mod Sums
+pub mod Laws
+pub mod Inverse

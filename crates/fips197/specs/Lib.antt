@@ -1,0 +1,9 @@
+pub mod Sbox
+pub mod Steps
+pub mod Keys
+pub mod Cipher
+pub mod Substitution
+pub mod Columns
+pub mod Blocks
+pub mod Schedule
+pub mod Decrypts

@@ -1,0 +1,38 @@
+// Lines of a text in lent slices.
+ghost use mathlib.Core.Path.{_≡_};
+ghost use mathlib.Core.List.{[], _∷_, _++_};
+ghost use Prim.Native.Nat.{_+_, _-_};
+ghost use lib.ListN.{length, drop};
+ghost use Rattle.text.specs.Shown.{inRoom, Adds};
+ghost use Rattle.lines.specs.Lines.{lineLength};
+
+// The place of the first LF from at on, or where the text ends.
+pub fn line_end(text: &[u8], at: usize) -> usize
+    ensures { λ r. ⌜ r ≡ at + lineLength (drop at (now (text .entry))) ⌝ }
+{
+    let mut i = at;
+    while i < text.len() {
+        if text[i] == b'\n' {
+            return i;
+        }
+        i += 1;
+    }
+    i
+}
+
+// Puts a line and its LF from place at of out on, and answers the place behind; nothing and at where there is no room.
+pub fn put(line: &[u8], at: usize, out: &mut [u8]) -> usize
+    ensures { λ r. ⌜ Adds (inRoom (length (now (out .entry)) - at) (now (line .entry) ++ 0x0A ∷ [])) (now (out .entry)) at (now (out .exit)) r ⌝ }
+{
+    let len = line.len();
+    if out.len() <= at {
+        return at;
+    }
+    if out.len() - at <= len {
+        return at;
+    }
+    wire::lay(out, at, line);
+    let end = [0x0A];
+    wire::lay(out, at + len, &end);
+    at + len + 1
+}

@@ -1,0 +1,3 @@
+pub mod Till
+pub mod Laws
+pub mod Meets

@@ -1,0 +1,181 @@
+//! Counting what a script contains.
+
+use super::Writer;
+use crate::bench::BASE_GROUP;
+use crate::frames::{amount_frame, file_place, ins};
+use crate::messaging::MAC_SIZE;
+use crate::model::{Accepted, Condition, Mode, Refusal, Session, LONGEST_MAC_READ, REPLY_ROOM};
+use crate::tally::{LineSort, Tally};
+use crate::terminal::parts;
+
+impl Writer {
+    /// Counts a line that was answered.
+    pub(super) fn count_line(&mut self, sort: LineSort, line: &[u8]) {
+        let tally = &mut self.tally;
+        match sort {
+            LineSort::PowerUp => tally.power_ups += 1,
+            LineSort::Session => tally.sessions += 1,
+            LineSort::Room => tally.rooms += 1,
+            LineSort::Personalisation => {
+                tally.personalisations[usize::from(self.answer[1] - b'0')] += 1;
+                tally.with_keys += u64::from(line.len() > 1 + 2 * BASE_GROUP);
+            }
+            LineSort::Books => tally.books += 1,
+            LineSort::Inputs => tally.inputs += 1,
+            LineSort::Other => tally.others += 1,
+            LineSort::NoRoom => tally.no_room += 1,
+            // The place of a refusal is counted by `count_frame`.
+            LineSort::Command => tally.commands += 1,
+        }
+        let drops = match sort {
+            LineSort::PowerUp | LineSort::Personalisation => true,
+            LineSort::Command => ![&b"9100\n"[..], b"91AF\n"]
+                .iter()
+                .any(|accepted| self.answer.ends_with(accepted)),
+            _ => false,
+        };
+        if drops {
+            self.open = 0;
+        }
+    }
+
+    /// Counts the outcome of a frame that is sent next.
+    pub(super) fn count_frame(&mut self, frame: &[u8], outcome: Result<Accepted, Refusal>) {
+        if self.bench.room() < REPLY_ROOM {
+            return;
+        }
+        self.count_in_session(frame, outcome);
+        match outcome {
+            Ok(_) => self.count_accepted(frame),
+            Err(refusal) => {
+                self.tally.places[refusal.row()] += 1;
+                if frame.get(1) == Some(&ins::GET_FILE_SETTINGS) {
+                    self.tally.settings_places[refusal.row()] += 1;
+                }
+                if refusal == Refusal::BadParameter {
+                    self.count_zero_amount(frame);
+                }
+                if refusal == Refusal::Boundary && self.is_second_rebooking(frame) {
+                    self.tally.used_up += 1;
+                }
+            }
+        }
+    }
+
+    /// Counts what only sessions of AuthenticateEV2First have.
+    fn count_in_session(&mut self, frame: &[u8], outcome: Result<Accepted, Refusal>) {
+        let card = self.bench.card();
+        let tally = &mut self.tally;
+        let (instruction, data) = match parts(frame) {
+            Some(parts) => parts,
+            None => return,
+        };
+        let accepted = outcome.is_ok();
+        match card.session() {
+            Session::Waiting(first) if instruction == ins::SECOND_PART => {
+                let key = usize::from(first.key_number);
+                tally.opened[key] += u64::from(accepted);
+                tally.failed += u64::from(outcome == Err(Refusal::NotGranted));
+            }
+            Session::Real(session) => {
+                let maced = card.takes_mac(instruction, data);
+                if let (true, Some(place)) = (accepted, ins::place(instruction)) {
+                    tally.in_session[usize::from(maced)][place] += 1;
+                    let file = data.first().and_then(|&file| file_place(file));
+                    let mode = file.map(|place| card.modes()[place]);
+                    tally.free_in_mac_mode += u64::from(!maced && mode == Some(Mode::Mac));
+                }
+                tally.highest_counter = tally.highest_counter.max(session.counter);
+                let ended = session.counter == u16::MAX && outcome == Err(Refusal::Integrity);
+                tally.ended += u64::from(ended);
+                if maced && instruction == ins::READ_DATA {
+                    count_mac_read(tally, data, outcome);
+                }
+            }
+            _ => {}
+        }
+    }
+
+    fn count_zero_amount(&mut self, frame: &[u8]) {
+        let place = ins::WITH_AMOUNT
+            .iter()
+            .position(|&instruction| amount_frame(instruction, 0x03, 0) == frame);
+        if let Some(place) = place {
+            self.tally.zero_amounts[place] += 1;
+        }
+    }
+
+    /// Whether a frame is a LimitedCredit within the committed allowance that
+    /// another of its transaction has used up.
+    pub(super) fn is_second_rebooking(&self, frame: &[u8]) -> bool {
+        let books = self.bench.card().books();
+        let amount = frame.get(6..10).map_or(u32::MAX, |bytes| {
+            u32::from_le_bytes(bytes.try_into().expect("four bytes"))
+        });
+        frame.get(1) == Some(&ins::LIMITED_CREDIT)
+            && i64::from(amount) <= i64::from(books.allowance)
+            && books.pending_allowance < books.allowance
+    }
+
+    /// Whether a frame is a ReadData in MAC mode.
+    pub(super) fn is_mac_read(&self, frame: &[u8]) -> bool {
+        parts(frame).map_or(false, |(instruction, data)| {
+            instruction == ins::READ_DATA && self.bench.card().takes_mac(instruction, data)
+        })
+    }
+
+    fn count_settings(&mut self, file: u8) {
+        let place = file_place(file).expect("an accepted file is known");
+        let rights = self.bench.card().rights()[place];
+        let sealed = [rights.read, rights.write, rights.read_write] == [Condition::Never; 3];
+        self.tally.settings[place] += 1;
+        self.tally.sealed_settings += u64::from(sealed);
+    }
+
+    fn count_accepted(&mut self, frame: &[u8]) {
+        let instruction = frame[1];
+        let books = self.bench.card().books();
+        let place = ins::place(instruction).expect("an accepted instruction is known");
+        self.tally.accepted[place] += 1;
+        match instruction {
+            ins::COMMIT => {
+                self.tally.pushed_out += u64::from(books.entries == 4 && books.entry_pending);
+                self.tally.held_sums += u64::from(books.debit_sum == i32::MAX);
+                if books.pending_allowance < books.allowance {
+                    self.tally.rebookings[usize::from(books.debit_sum > 0)] += 1;
+                }
+                self.tally.long_transactions += u64::from(self.open >= 10);
+                self.open = 0;
+            }
+            ins::ABORT => self.open = 0,
+            ins::GET_FILE_SETTINGS => self.count_settings(frame[5]),
+            ins::READ_DATA | ins::WRITE_DATA | ins::GET_VALUE | ins::READ_RECORDS => {}
+            ins::FIRST_PART | ins::SECOND_PART => {}
+            _ => self.open += 1,
+        }
+    }
+}
+
+/// Counts a ReadData in MAC mode by how much it reads, if it stays inside a
+/// file of 256 bytes.
+fn count_mac_read(tally: &mut Tally, data: &[u8], outcome: Result<Accepted, Refusal>) {
+    let figure = |at: usize| (0..3).map(|i| usize::from(data[at + i]) << (8 * i)).sum();
+    if data.len() != 7 + MAC_SIZE || outcome == Err(Refusal::Integrity) {
+        return;
+    }
+    let (offset, length): (usize, usize) = (figure(1), figure(4));
+    let reads = match length {
+        0 => 256usize.saturating_sub(offset),
+        _ => length,
+    };
+    if data[0] == 0x1F || offset + reads > 256 {
+        return;
+    }
+    tally.mac_reads_to_end += u64::from(length == 0 && outcome.is_ok());
+    if let Some(count) = tally
+        .mac_reads
+        .get_mut(reads.wrapping_sub(LONGEST_MAC_READ - 1))
+    {
+        *count += 1;
+    }
+}

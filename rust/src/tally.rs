@@ -1,0 +1,223 @@
+//! What scripts contain.
+
+use crate::frames::ins;
+use crate::model::{Refusal, KEYS, ROWS};
+use crate::scripts::SealFault;
+use std::fmt::{self, Display, Formatter};
+
+/// What the scripts written so far contain.
+#[derive(Clone, Debug, Default)]
+pub struct Tally {
+    /// All lines.
+    pub lines: u64,
+    /// Commands that reached the card.
+    pub commands: u64,
+    /// Commands refused by the bench for want of room (number 5).
+    pub no_room: u64,
+    /// Session changes.
+    pub sessions: u64,
+    /// Power-ups.
+    pub power_ups: u64,
+    /// Personalisations, by the number printed.
+    pub personalisations: [u64; 4],
+    /// `R` lines.
+    pub rooms: u64,
+    /// `B` lines.
+    pub books: u64,
+    /// `?` lines.
+    pub others: u64,
+    /// Accepted commands, in the order of the command table.
+    pub accepted: [u64; 14],
+    /// Refused commands, by the place of the order of checks.
+    pub places: [u64; ROWS],
+    /// Amounts of 0 refused for that, in Credit, Debit and LimitedCredit.
+    pub zero_amounts: [u64; 3],
+    /// Accepted GetFileSettings of the files 00h, 04h, 1Fh, 03h and 01h.
+    pub settings: [u64; 5],
+    /// Those of a file whose R, W and RW are all Fh.
+    pub sealed_settings: u64,
+    /// Refused ones, by the place of the order of checks.
+    pub settings_places: [u64; ROWS],
+    /// LimitedCredits within the committed allowance, refused at place 12
+    /// after another of their transaction.
+    pub used_up: u64,
+    /// Commits of a LimitedCredit: without a Debit, and with one.
+    pub rebookings: [u64; 2],
+    /// Commits that pushed an entry out of the log.
+    pub pushed_out: u64,
+    /// Commits whose Debit sum was held at 2,147,483,647.
+    pub held_sums: u64,
+    /// Commits of ten or more accepted commands that made something pending.
+    pub long_transactions: u64,
+    /// `N` lines.
+    pub inputs: u64,
+    /// Personalisations with keys and modes.
+    pub with_keys: u64,
+    /// Lines between the two parts of an authentication, by their sort.
+    pub between: [u64; LineSort::ALL.len()],
+    /// Sessions of AuthenticateEV2First by their key.
+    pub opened: [u64; KEYS],
+    /// Second parts that failed.
+    pub failed: u64,
+    /// Accepted commands under such a session, in the order of the command
+    /// table: plain ones, and those in MAC mode.
+    pub in_session: [[u64; 14]; 2],
+    /// The plain ones on a file in MAC mode: a free condition alone grants them.
+    pub free_in_mac_mode: u64,
+    /// ReadData in MAC mode of 247, 248, 249 and 250 bytes.
+    pub mac_reads: [u64; 4],
+    /// Accepted ones to the end of a file.
+    pub mac_reads_to_end: u64,
+    /// What was wrong with MACs.
+    pub seal_faults: [u64; SealFault::ALL.len()],
+    /// The highest command counter.
+    pub highest_counter: u16,
+    /// Commands refused at its end.
+    pub ended: u64,
+}
+
+/// The sorts of lines.
+#[derive(Clone, Copy, Debug, PartialEq, Eq)]
+pub enum LineSort {
+    /// An empty line.
+    PowerUp,
+    /// `S` with or without a key.
+    Session,
+    /// `R`.
+    Room,
+    /// `P`.
+    Personalisation,
+    /// `B`.
+    Books,
+    /// `N`.
+    Inputs,
+    /// A line answered `?`.
+    Other,
+    /// A command that the bench refused.
+    NoRoom,
+    /// Any other command.
+    Command,
+}
+
+impl LineSort {
+    /// All sorts.
+    pub const ALL: [Self; 9] = [
+        Self::PowerUp,
+        Self::Session,
+        Self::Room,
+        Self::Personalisation,
+        Self::Books,
+        Self::Inputs,
+        Self::Other,
+        Self::NoRoom,
+        Self::Command,
+    ];
+
+    /// The sort of a line with this answer.
+    pub fn of(line: &[u8], answer: &[u8]) -> Self {
+        match line {
+            _ if answer == b"?\n" => Self::Other,
+            [] => Self::PowerUp,
+            b"B" => Self::Books,
+            [b'S', ..] => Self::Session,
+            [b'R', ..] => Self::Room,
+            [b'P', ..] => Self::Personalisation,
+            [b'N', ..] => Self::Inputs,
+            _ if answer.starts_with(b"!") => Self::NoRoom,
+            _ => Self::Command,
+        }
+    }
+}
+
+impl Tally {
+    /// The events of the paper's section "Events": commands, session changes
+    /// and power-ups. Personalisations and the other lines don't count.
+    pub fn events(&self) -> u64 {
+        self.commands + self.no_room + self.sessions + self.power_ups
+    }
+}
+
+/// A line of counts with their names.
+fn write_counts<Name: Display, const COUNTS: usize>(
+    f: &mut Formatter,
+    title: &str,
+    names: [Name; COUNTS],
+    counts: [u64; COUNTS],
+) -> fmt::Result {
+    write!(f, "{title}:")?;
+    for (name, count) in names.iter().zip(counts) {
+        write!(f, " {name}:{count}")?;
+    }
+    writeln!(f)
+}
+
+impl Tally {
+    /// What sessions of AuthenticateEV2First brought.
+    fn fmt_sessions(&self, f: &mut Formatter) -> fmt::Result {
+        let instructions = || ins::ALL.map(|byte| format!("{byte:02X}"));
+        writeln!(
+            f,
+            "N {}, P with keys {}, sessions opened by key {:?}, second parts that failed {}",
+            self.inputs, self.with_keys, self.opened, self.failed
+        )?;
+        let sorts = LineSort::ALL.map(|sort| format!("{sort:?}"));
+        write_counts(f, "between the parts", sorts, self.between)?;
+        let [plain, maced] = self.in_session;
+        write_counts(f, "in session, plain", instructions(), plain)?;
+        write_counts(f, "in session, with a MAC", instructions(), maced)?;
+        let faults = SealFault::ALL.map(|fault| format!("{fault:?}"));
+        write_counts(f, "wrong MACs", faults, self.seal_faults)?;
+        write!(
+            f,
+            "free in MAC mode {}, MACed reads of 247 to 250 bytes {:?}, to the end {}, \
+             highest counter {}, refused at its end {}",
+            self.free_in_mac_mode,
+            self.mac_reads,
+            self.mac_reads_to_end,
+            self.highest_counter,
+            self.ended
+        )
+    }
+}
+
+impl Display for Tally {
+    fn fmt(&self, f: &mut Formatter) -> fmt::Result {
+        writeln!(
+            f,
+            "lines {}: commands {} and {} without room, sessions {}, power-ups {}, \
+             personalisations {:?}, R {}, B {}, ? {}",
+            self.lines,
+            self.commands,
+            self.no_room,
+            self.sessions,
+            self.power_ups,
+            self.personalisations,
+            self.rooms,
+            self.books,
+            self.others
+        )?;
+        write_counts(
+            f,
+            "accepted",
+            ins::ALL.map(|byte| format!("{byte:02X}")),
+            self.accepted,
+        )?;
+        write_counts(f, "refused by place", Refusal::PLACES, self.places)?;
+        writeln!(
+            f,
+            "settings of each file {:?}, of them sealed {}, refused by place {:?}",
+            self.settings, self.sealed_settings, self.settings_places
+        )?;
+        writeln!(
+            f,
+            "second re-bookings {}, re-bookings committed without and with a Debit {:?}",
+            self.used_up, self.rebookings
+        )?;
+        writeln!(
+            f,
+            "amounts of 0 {:?}, entries pushed out {}, Debit sums held {}, long transactions {}",
+            self.zero_amounts, self.pushed_out, self.held_sums, self.long_transactions
+        )?;
+        self.fmt_sessions(f)
+    }
+}
