@@ -2,7 +2,7 @@
 use Prim.Native.Nat.{ℕ}
 use mathlib.Core.Bool.{true, false, true≢false}
 use mathlib.Core.List.{List, [], _∷_}
-use mathlib.Core.Path.{_≡_, refl, sym, ap, subst, _∙_}
+use mathlib.Core.Path.{_≡_, refl, sym, ap, subst}
 use lib.Dec.{eqb}
 use lib.IntN.{ℤ}
 use Rattle.tables.specs.Choice.{pick-both}
@@ -16,7 +16,6 @@ use Rattle.authentication.specs.Authentication.{begun, opened}
 use Rattle.settings.specs.declared.Settings.{Settings}
 use Rattle.commands.specs.State.{State}
 use Rattle.commands.specs.Rows.{ok, statusOf}
-use Rattle.card.specs.declared.Card.{Card}
 use Rattle.card.specs.View.{view}
 use Rattle.card.specs.Events.{channelAfter, changed, Played, ended, refused, acceptedPlain, accepted, played, withSession, issued}
 use Rattle.demands.specs.History.{Event, command, session, power, run}

@@ -1,15 +1,15 @@
 -- A frame made of an INS and a data field passes places 1 to 4, and both are read out of it.
-use Prim.Native.Nat.{ℕ, zero, suc, _+_, _-_, _≤_, _<_}
-use mathlib.Core.Bool.{Bool, true, false, not, _&&_, _||_}
+use Prim.Native.Nat.{ℕ, suc, _+_, _-_, _≤_, _<_}
+use mathlib.Core.Bool.{false, not}
 use mathlib.Core.List.{List, [], _∷_, _++_}
 use mathlib.Core.Path.{_≡_, refl, sym, ap, _∙_}
 use native.Mathlib.Omega.{arith}
-use borrow.Author.Tests.{eq-eqb, ne-eqb, le-ltb, le-leb, eqb-true, not-false, ltb-false}
-use lib.Dec.{eqb, leb, ltb}
-use lib.ListN.{length, getD, take, drop, length-append}
+use borrow.Author.Tests.{eq-eqb, ne-eqb, le-ltb, eqb-true, not-false, ltb-false}
+use lib.Dec.{eqb, leb}
+use lib.ListN.{length, getD, take, length-append}
 use lib.Seq.{take-at, getD-at, length-take-le, getD-take}
 use Rattle.tables.specs.Choice.{or-none, and-right, or-no}
-use Rattle.wire.specs.Listed.{listed, spread}
+use Rattle.wire.specs.Listed.{spread}
 use Rattle.frames.specs.Frame.{insOf, dataOf, wrongSize, wrongClass, wrongParameters, wrongFrame}
 
 abbrev pub framed : ℕ → List ℕ → List ℕ

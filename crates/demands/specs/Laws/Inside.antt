@@ -2,11 +2,11 @@
 use Prim.Native.Nat.{ℕ, _+_, _-_, _≤_, _<_}
 use mathlib.Core.Bool.{Bool, true, false, not, _||_}
 use mathlib.Core.List.{List}
-use mathlib.Core.Path.{_≡_, refl, sym, subst, _∙_}
+use mathlib.Core.Path.{_≡_, refl, sym, subst}
 use native.Mathlib.Omega.{arith}
 use borrow.Author.Tests.{not-false, eqb-true, ltb-false, le-leb}
-use lib.Dec.{eqb, leb, ltb}
-use lib.ListN.{length, getD, length-take}
+use lib.Dec.{eqb, leb}
+use lib.ListN.{length, length-take}
 use lib.Seq.{getD-take}
 use Rattle.tables.specs.Choice.{pick, or-no, none}
 use Rattle.wire.specs.Bytes.{outsideOf}
@@ -14,11 +14,11 @@ use Rattle.wire.specs.Laws.{length-part}
 use Rattle.datafiles.specs.Files.{sizeOf}
 use Rattle.logbook.specs.Journal.{entrySize}
 use Rattle.frames.specs.Frame.{fileOf, offsetOf, lengthOf, bytesIn, keyIn}
-use Rattle.columns.specs.Table.{writeData, writeRecord, authenticateFirst, authenticateSecond, isData, onFile, suits}
+use Rattle.columns.specs.Table.{writeData, writeRecord, authenticateFirst, isData, onFile, suits}
 use Rattle.commands.specs.State.{Core}
 use Rattle.commands.specs.Modes.{accessFor, macSize, plainOf}
 use Rattle.commands.specs.Rows.{lengthCases, wrongLength, otherKindOrNever, switchedOff, parameterCases, badParameter, outside, macedIn, rowsOf, ok, commandStatus}
-use Rattle.commands.specs.Laws.{command-clear, inside, long-enough, second-length, write-inside, entry-inside}
+use Rattle.commands.specs.Laws.{command-clear, inside, long-enough, write-inside, entry-inside}
 
 -- of the INS i and the data field d
 pub record Cleared (c : Core) (i : ℕ) (d : List ℕ) : Type 0 where

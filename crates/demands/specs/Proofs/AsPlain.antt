@@ -1,13 +1,13 @@
 -- What a MACed command does is what the same command does plain.
-use Prim.Native.Nat.{ℕ, _+_, _-_, _%_, _≤_}
+use Prim.Native.Nat.{ℕ, _+_, _-_, _%_}
 use mathlib.Core.Bool.{Bool, true, false, not, _&&_, _||_, true≢false}
-use mathlib.Core.List.{List, [], _∷_, _++_, append-assoc}
+use mathlib.Core.List.{List, [], _∷_, _++_}
 use mathlib.Core.Logic.{_↔_}
 use mathlib.Core.Path.{_≡_, refl, sym, ap, subst, _∙_}
 use native.Mathlib.Omega.{arith}
 use borrow.Author.Tests.{eqb-true, eq-eqb, ne-eqb, le-ltb, not-false}
-use lib.Dec.{eqb, leb, ltb}
-use lib.ListN.{length, getD, take, drop, length-append}
+use lib.Dec.{eqb}
+use lib.ListN.{length, take, drop, length-append}
 use lib.Seq.{take-at, drop-at}
 use Rattle.tables.specs.Choice.{pick, none, or-no, or-none, and-left, and-right, and-both}
 use Rattle.tables.specs.Reasons.{NoReason, none-first}
@@ -19,17 +19,17 @@ use Rattle.channel.specs.declared.Stage.{Stage}
 use Rattle.channel.specs.declared.Stage.the-variants.{Bench, Real}
 use Rattle.channel.specs.Channel.{isReal, counterOf, countedUp, counted, bare}
 use Rattle.sealing.specs.Sealing.{sealOf}
-use Rattle.frames.specs.Frame.{insOf, dataOf, fileOf, wrongSize, wrongClass, wrongParameters, wrongFrame}
-use Rattle.columns.specs.Table.{readData, writeData, getValue, credit, debit, limitedCredit, readRecords, writeRecord, clearRecordFile, getFileSettings, authenticateFirst, authenticateSecond, onData, onValue, onLog, onFile, namesFile, ends, isBase}
-use Rattle.commands.specs.State.{Core, State, logPending}
+use Rattle.frames.specs.Frame.{insOf, dataOf, fileOf}
+use Rattle.columns.specs.Table.{readData, writeData, getValue, credit, debit, limitedCredit, readRecords, writeRecord, clearRecordFile, getFileSettings, authenticateFirst, authenticateSecond, onFile, namesFile, isBase}
+use Rattle.commands.specs.State.{Core, logPending}
 use Rattle.commands.specs.Modes.{accessFor, macedUnder, plainOf, macOf}
 use Rattle.commands.specs.Rows.{unknownCommand, interrupts, lengthCases, wrongLength, lacksMac, unknownFile, otherKindOrNever, notGranted, partFails, forged, usedUp, switchedOff, badParameter, outside, longRead, nothingPending, macedIn, rowsUnder, rowsOf, ok, statusOf}
 use Rattle.commands.specs.Laws.{clear}
 use Rattle.card.specs.declared.Card.{Card}
 use Rattle.card.specs.View.{view, put, broken, onChannel}
 use Rattle.card.specs.Outcome.{Outcome}
-use Rattle.card.specs.Events.{channelAfter, changed, macBehind, acceptedPlain, accepted, laidInto}
-use Rattle.card.specs.Accepted.{baseShown, base-channel, base-accepted}
+use Rattle.card.specs.Events.{changed, macBehind, acceptedPlain, accepted, laidInto}
+use Rattle.card.specs.Accepted.{baseShown, base-accepted}
 use Rattle.card.specs.Laws.{command-plays, plays-accepted}
 use Rattle.standing.specs.Rules.{brokenBy}
 use Rattle.settings.specs.declared.Settings.{Settings}
@@ -37,12 +37,12 @@ use Rattle.keys.specs.declared.Keys.{Keys}
 use Rattle.purse.specs.declared.Purse.{Purse}
 use Rattle.logbook.specs.Journal.{Journal}
 use Rattle.logbook.specs.View as log
-use Rattle.till.specs.Till.{sealed, sealable}
+use Rattle.till.specs.Till.{sealed}
 use Rattle.till.specs.Laws.{length-seal, length-data, sealable-yes}
-use Rattle.demands.specs.Demands.{Kept, rowsFor}
-use Rattle.demands.specs.Sessions.{sends, macedFrame, onBench, SealedAsPlain, Sealable, AsPlain}
+use Rattle.demands.specs.Demands.{Kept}
+use Rattle.demands.specs.Sessions.{sends, macedFrame, onBench, Sealable, AsPlain}
 use Rattle.demands.specs.Laws.Inside.{or-false-false}
-use Rattle.demands.specs.Laws.Framed.{framed, framed-length, header}
+use Rattle.demands.specs.Laws.Framed.{framed, header}
 use Rattle.demands.specs.Proofs.LetIn.{Sent, framed-sent}
 
 -- ---- a command in MAC mode

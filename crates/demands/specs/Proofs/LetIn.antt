@@ -1,14 +1,14 @@
 -- A terminal that knows the key and follows the protocol is let in.
 use Prim.Native.Nat.{ℕ, _+_, _*_, _/_, _≤_}
-use mathlib.Core.Bool.{Bool, true, false, not, _&&_}
+use mathlib.Core.Bool.{true, false, not}
 use mathlib.Core.List.{List, [], _∷_, _++_}
 use mathlib.Core.Path.{_≡_, refl, sym, ap, subst, _∙_}
 use native.Mathlib.Omega.{arith}
 use borrow.Author.Tests.{eq-eqb, ne-eqb, le-ltb}
-use lib.Dec.{eqb, ltb}
+use lib.Dec.{eqb}
 use lib.ListN.{length, replicate, length-append}
 use Rattle.tables.specs.Choice.{pick, or-none, and-left, and-right, no-any}
-use Rattle.tables.specs.Reasons.{NoReason, none-first}
+use Rattle.tables.specs.Reasons.{none-first}
 use Rattle.wire.specs.Bytes.{word}
 use Rattle.wire.specs.Listed.{filled, length-filled}
 use Rattle.field.specs.Bytes.{Bytes, Block, Sized, zeros}
@@ -17,7 +17,7 @@ use Rattle.keys.specs.declared.Keys.{Keys}
 use Rattle.keys.specs.Keys.{keyAt}
 use Rattle.channel.specs.declared.Channel.{Channel}
 use Rattle.channel.specs.declared.Inputs.{Inputs}
-use Rattle.channel.specs.declared.Stage.the-variants.{Waiting, Real}
+use Rattle.channel.specs.declared.Stage.the-variants.{Real}
 use Rattle.channel.specs.Channel.{isWaiting, stageKey}
 use Rattle.cbc.specs.Laws.{length-encrypted}
 use Rattle.handshake.specs.Handshake.{rotated, capsOf, macKey, firstReply, broughtA, fails, secondReply}
@@ -28,13 +28,12 @@ use Rattle.commands.specs.State.{Core, State}
 use Rattle.commands.specs.Modes.{plainOf}
 use Rattle.commands.specs.Rows.{unknownCommand, interrupts, lengthCases, wrongLength, lacksMac, unknownFile, otherKindOrNever, notGranted, partFails, forged, usedUp, switchedOff, parameterCases, badParameter, ranged, amountCases, outside, longRead, nothingPending, macedIn, rowsOf, ok, statusOf}
 use Rattle.commands.specs.Laws.{first-plain, second-plain}
-use Rattle.effects.specs.Effects.{purseAfter, journalAfter, filesAfter}
 use Rattle.card.specs.declared.Card.{Card}
 use Rattle.card.specs.View.{view, put}
 use Rattle.card.specs.Outcome.{Outcome}
-use Rattle.card.specs.Events.{channelAfter, changed, shown, macBehind, acceptedStatus, Played, acceptedPlain, accepted, laidInto}
+use Rattle.card.specs.Events.{channelAfter, changed, shown, macBehind, acceptedStatus, acceptedPlain, accepted, laidInto}
 use Rattle.card.specs.Laws.{command-plays, plays-accepted}
-use Rattle.till.specs.Till.{firstFrame, learntB, secondPart, secondFrame, repliedTi, knowsUs}
+use Rattle.till.specs.Till.{firstFrame, learntB, secondPart, secondFrame, repliedTi}
 use Rattle.till.specs.Meets.{learns, brings, passes, tells, knows}
 use Rattle.demands.specs.History.{command, outcome}
 use Rattle.demands.specs.Demands.{Kept}

@@ -1,13 +1,13 @@
 -- A wrong MAC changes nothing but the session.
 use Prim.Native.Nat.{ℕ}
 use mathlib.Core.Bool.{Bool, true, false, not, true≢false, _||_}
-use mathlib.Core.List.{List, _++_}
+use mathlib.Core.List.{List}
 use mathlib.Core.Path.{_≡_, refl, sym, ap, subst, _∙_}
 use native.Mathlib.Omega.{arith}
 use lib.ListN.{take, drop}
 use Rattle.tables.specs.Choice.{or-left}
-use Rattle.tables.specs.Reasons.{Reason, first, NoReason, no-reason, first-refuses}
-use Rattle.wire.specs.Bytes.{same, word}
+use Rattle.tables.specs.Reasons.{Reason, first, no-reason, first-refuses}
+use Rattle.wire.specs.Bytes.{same}
 use Rattle.wire.specs.Same.{same-true}
 use Rattle.channel.specs.declared.Inputs.{Inputs}
 use Rattle.channel.specs.Channel.{counterOf}
