@@ -6,7 +6,7 @@ use mathlib.Core.Path.{_≡_, refl, sym, ap, _∙_}
 use borrow.Author.Tests.{eq-eqb, ne-eqb, eqb-true, leb-true, leb-false, ltb-true, ltb-false, lt-ltb, le-ltb}
 use lib.Dec.{eqb, leb, ltb}
 use lib.ListN.{length, take, drop, getD, length-append, length-drop, drop-of-length-le}
-use lib.Seq.{drop-cons, drop-drop, take-all, getD-drop}
+use lib.Seq.{drop-cons, drop-drop, take-all}
 use native.Mathlib.Nat.{add-zero, sub-zero}
 use native.Mathlib.Omega.{arith}
 use Rattle.tables.specs.Choice.{pick, picked, passed, pick-cases}
@@ -34,7 +34,7 @@ module _ (t : List ℕ) (i : ℕ) where
   unfolding lineLength
   length-none h = rw (drop-of-length-le t {i = i} h)
 
-length-most : (s : List ℕ) → lineLength s ≤ length s
+pub length-most : (s : List ℕ) → lineLength s ≤ length s
 unfolding lineLength
 length-most [] = omega arith
 length-most (c ∷ cs) = pick-cases (λ (n : ℕ). n ≤ suc (length cs)) (eqb c 0x0A) 0 (suc (lineLength cs)) (λ e. omega arith) (λ e. omega (arith, length-most cs))
@@ -84,7 +84,7 @@ lines-at t at h =
     lines-first [] (drop at t) ∙ (λ i. pick (q i) (take (n i) (drop at t) ∷ linesAfter [] (r i)) [])
 
 -- where the first line has an end, LF stands there
-length-stop : (s : List ℕ) → lineLength s < length s → getD s (lineLength s) 0 ≡ 0x0A
+pub length-stop : (s : List ℕ) → lineLength s < length s → getD s (lineLength s) 0 ≡ 0x0A
 unfolding lineLength
 length-stop [] h = absurd (omega arith)
 length-stop (c ∷ cs) h = by (eqb c 0x0A) refl h (λ k. length-stop cs k)
@@ -95,12 +95,14 @@ length-stop (c ∷ cs) h = by (eqb c 0x0A) refl h (λ k. length-stop cs k)
     by false e k r = unfold pick in r (omega arith)
 
 -- place e is the end of the line that starts at place at
-pub line-ends : (t : List ℕ) (at : ℕ) {e : ℕ} → at ≤ length t → e ≡ at + lineLength (drop at t)
-    → Lines t at e × (at ≤ e) × (e ≤ length t) × (e < length t → getD t e 0 ≡ 0x0A)
+abbrev pub Ends : List ℕ → ℕ → ℕ → Type 0
+Ends t at e = Lines t at e × (at ≤ e) × (e ≤ length t)
+
+pub line-ends : (t : List ℕ) (at : ℕ) {e : ℕ} → at ≤ length t → e ≡ at + lineLength (drop at t) → Ends t at e
 line-ends t at h q =
     let m = length-most (drop at t) in
     let l = length-drop at t in
-    rw q (lines-at t at h, omega arith, omega arith, λ k. sym (getD-drop at t (lineLength (drop at t)) 0) ∙ length-stop (drop at t) (omega arith))
+    rw q (lines-at t at h, omega arith, omega arith)
 
 pub lines-none : (held t : List ℕ) (i : ℕ) → length t ≤ i → linesAfter held (drop i t) ≡ []
 unfolding linesAfter

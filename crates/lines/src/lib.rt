@@ -3,8 +3,10 @@ ghost use mathlib.Core.Path.{_≡_};
 ghost use mathlib.Core.List.{[], _∷_, _++_};
 ghost use Prim.Native.Nat.{_+_, _-_};
 ghost use lib.ListN.{length, drop};
+ghost use Rattle.wire.specs.Bytes.{part};
 ghost use Rattle.text.specs.Shown.{inRoom, Adds};
 ghost use Rattle.lines.specs.Lines.{lineLength};
+ghost use Rattle.lines.specs.Frames.{frameIn};
 
 // The place of the first LF from at on, or where the text ends.
 pub fn line_end(text: &[u8], at: usize) -> usize
@@ -18,6 +20,21 @@ pub fn line_end(text: &[u8], at: usize) -> usize
         i += 1;
     }
     i
+}
+
+// Spells the frame that stands at place at, up to its LF, into the front of bytes, and answers the number of its bytes; 0 where
+// the line there is none.
+pub fn spell_frame(text: &[u8], at: usize, bytes: &mut [u8; 512]) -> usize
+    ensures { λ r. ⌜ (r ≡ length (frameIn (drop at (now (text .entry))))) × (part (now (bytes .exit)) 0 r ≡ frameIn (drop at (now (text .entry)))) ⌝ }
+{
+    if text.len() <= at {
+        return 0;
+    }
+    let size = text::spell(&text[at..], bytes);
+    if (0 < size) & (wire::byte_at(text, at + 2 * size) == b'\n') {
+        return size;
+    }
+    0
 }
 
 // Puts a line and its LF from place at of out on, and answers the place behind; nothing and at where there is no room.

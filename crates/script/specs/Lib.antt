@@ -1,7 +1,1 @@
 pub mod Lines
-pub mod Run
-pub mod Laws
-pub mod RunLaws
-pub mod Sofar
-pub mod Commands
-pub mod Played

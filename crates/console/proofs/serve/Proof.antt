@@ -1,4 +1,5 @@
-use Rattle.script.specs.RunLaws.{goes-within}
+use Rattle.lines.specs.Laws.{goes-within}
+use Rattle.script.specs.Lines.{lineSaid}
 use mathlib.Core.Path.{_≡_}
 use Prim.Native.Nat.{_≤_}
 use lib.ListN.{length}
@@ -46,19 +47,19 @@ part-write-all-start : tie.Need-part-write-all-start Inv-loop μ-loop
 part-write-all-start c = search needs
 
 part-write-all-end : tie.Need-part-write-all-end Inv-loop μ-loop
-part-write-all-end c = let w = goes-within _ _ _ _ _ (c .before .before .run .ensures) in search needs
+part-write-all-end c = let w = goes-within lineSaid _ _ _ _ _ _ _ (c .before .before .run .ensures) in search needs
 
 write-all-requires : tie.Need-write-all-requires Inv-loop μ-loop
 write-all-requires c κs = tt
 
 add-at : tie.Need-add-at Inv-loop μ-loop
-add-at c = let w = goes-within _ _ _ _ _ (c .before .before .before .before .before .run .ensures) in search needs
+add-at c = let w = goes-within lineSaid _ _ _ _ _ _ _ (c .before .before .before .before .before .run .ensures) in search needs
 
 loop-less : tie.Need-loop-less Inv-loop μ-loop
 loop-less c = search needs
 
 loop-again : tie.Need-loop-again Inv-loop μ-loop
-loop-again c = let w = goes-within _ _ _ _ _ (c .before .before .before .before .before .run .ensures) in search needs
+loop-again c = let w = goes-within lineSaid _ _ _ _ _ _ _ (c .before .before .before .before .before .run .ensures) in search needs
 
 returns : tie.Need-returns Inv-loop μ-loop
 returns c = tt
@@ -69,11 +70,11 @@ slice-aggregate-keep-rest c = search needs
 keep-rest-requires : tie.Need-keep-rest-requires Inv-loop μ-loop
 keep-rest-requires c κs = tt
 
-slice-aggregate-read-block : tie.Need-slice-aggregate-read-block Inv-loop μ-loop
-slice-aggregate-read-block c = search needs
+slice-aggregate-read : tie.Need-slice-aggregate-read Inv-loop μ-loop
+slice-aggregate-read c = search needs
 
-read-block-requires : tie.Need-read-block-requires Inv-loop μ-loop
-read-block-requires c κs = search needs
+read-requires : tie.Need-read-requires Inv-loop μ-loop
+read-requires c κs = tt
 
 loop-less-2 : tie.Need-loop-less-2 Inv-loop μ-loop
 loop-less-2 c = search needs
@@ -109,8 +110,8 @@ serve-spec =
     returns
     slice-aggregate-keep-rest
     keep-rest-requires
-    slice-aggregate-read-block
-    read-block-requires
+    slice-aggregate-read
+    read-requires
     loop-less-2
     loop-again-2
     returns-2)

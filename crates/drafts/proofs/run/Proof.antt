@@ -1,11 +1,11 @@
 use Rattle.drafts.specs.Drafts.{drafted}
-use Rattle.lines.specs.Laws.{Lines, line-ends, text-fits, text-there}
+use Rattle.lines.specs.Laws.{Ends, line-ends, text-fits, text-there}
 use Rattle.lines.specs.Sofar.{Sofar, sofar-start, sofar-length, sofar-end, sofar-part, sofar-full, sofar-next, sofar-as}
 use Rattle.text.specs.Shown.{inRoom, Adds}
 use Rattle.wire.specs.Bytes.{part}
 use borrow.Author.Needs.{needs}
 use denote.Ref.{now}
-use lib.ListN.{length, getD}
+use lib.ListN.{length}
 use native.Mathlib.Omega.{arith}
 use Prim.Native.Nat.{ℕ, _-_, _≤_, _<_}
 use mathlib.Core.List.{List, [], _∷_, _++_}
@@ -22,12 +22,7 @@ abbrev μ-loop : tie.MeasureT-loop
 -- ---- what the places of a turn know
 
 -- the line goes up to the next LF
-abbrev Ends : tie.After-line-end Inv-loop μ-loop → Type 0
-Ends c = let t = now (c .before .before .before .before .before .args .text) in
-    let e = c .line-end .result in
-    Lines t (c .before .before .loop .at) e × (c .before .before .loop .at ≤ e) × (e ≤ length t) × (e < length t → getD t e 0 ≡ 0x0A)
-
-ends : (c : tie.After-line-end Inv-loop μ-loop) → Ends c
+ends : (c : tie.After-line-end Inv-loop μ-loop) → Ends (now (c .before .before .before .before .before .args .text)) (c .before .before .loop .at) (c .line-end .result)
 ends c = line-ends (now (c .before .before .before .before .before .args .text)) (c .before .before .loop .at) (c .before .before .loop .inv .1 .place) (c .line-end .ensures)
 
 inside : (c : tie.Else1 Inv-loop μ-loop) → c .before .line-end .result < length (now (c .before .before .before .before .before .before .args .text))

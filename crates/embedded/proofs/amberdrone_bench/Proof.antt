@@ -1,11 +1,10 @@
-use Rattle.script.specs.Run.{linesAfter, went, wentOf, Goes}
+use Rattle.lines.specs.Lines.{linesAfter, went, Goes}
+use Rattle.script.specs.Lines.{lineSaid}
 use Rattle.desk.specs.Program.{programDesk}
-use Rattle.script.specs.declared.Went.{Went}
 use lib.ListN.{length}
 use denote.Ref.{now}
 use mathlib.Core.List.{[]}
 use mathlib.Core.Bool.{true}
-use mathlib.Core.Path.{ap}
 use borrow.Author.Needs.{needs}
 use Rattle.embedded.proofs.amberdrone_bench.Statement.{statement}
 use Rattle.embedded.proofs.amberdrone_bench.Tie as tie
@@ -20,11 +19,10 @@ same-length : tie.Need-same-length
 same-length c = search needs
 
 returns : tie.Need-returns
-unfolding wentOf
 returns c =
     let a = c .before .before .before .before .before .before .before .args in
-    let h : Goes (went (programDesk true) (linesAfter [] (now (a .script))) (length (now (a .out)))) (now (a .out)) _ _ = rw (c .before .before .before .before .program .ensures) at (c .before .before .run .ensures) in
-    ((h .1, ap (λ (w : Went). w .written) (h .0)), ap (λ (w : Went). w .read) (h .0))
+    let h : Goes (went lineSaid (programDesk true) (linesAfter [] (now (a .script))) (length (now (a .out)))) (now (a .out)) _ _ _ _ = rw (c .before .before .before .before .program .ensures) at (c .before .before .run .ensures) in
+    ((h .3, h .2), h .1)
 
 pub amberdrone-bench-spec : {M : Type 1} → statement M
 amberdrone-bench-spec = tie.close (tie.spec program-requires run-requires same-length returns)

@@ -1,0 +1,68 @@
+use Rattle.lines.specs.Laws.{spelt-there}
+use Rattle.letters.proofs.Steps.{lettered-by}
+use Rattle.text.specs.Hex.{leading}
+use Rattle.text.specs.Laws.{leading-most}
+use Rattle.wire.specs.Bytes.{part}
+use Rattle.wire.specs.Laws.{length-part}
+use borrow.Author.Tests.{eqb-true}
+use lib.ListN.{length, replicate}
+use Prim.Native.Nat.{ℕ, _*_, _≤_}
+use denote.Ref.{now}
+use native.Mathlib.Omega.{arith}
+use mathlib.Core.List.{List}
+use mathlib.Core.Path.{_≡_, _∙_}
+use borrow.Author.Needs.{needs}
+use Rattle.letters.proofs.bench.say_lettered.Statement.{statement}
+use Rattle.letters.proofs.bench.say_lettered.Tie as tie
+
+-- the bytes behind the letter are spelt
+module _ (k : tie.After-spell) where
+  abbrev start : tie.Start
+  start = k .before .before .before
+
+  abbrev rest : List ℕ
+  rest = now (start .args .rest)
+
+  there : (part (k .spell .last .1 .0) 0 (k .spell .result) ≡ leading rest) × (k .spell .result ≡ length (leading rest)) × (k .spell .result ≤ length (k .spell .last .1 .0))
+  there = spelt-there rest (replicate 512 0) _ _ (start .pre) (omega arith) (k .spell .ensures)
+
+slice-aggregate-spell : tie.Need-slice-aggregate-spell
+slice-aggregate-spell c = search needs
+
+spell-requires : tie.Need-spell-requires
+spell-requires c κs = tt
+
+mul-digits : tie.Need-mul-digits
+mul-digits c = omega (arith, leading-most (rest (c .before)), there (c .before) .1)
+
+sub-say-spelt : tie.Need-sub-say-spelt
+sub-say-spelt c = search needs
+
+part-say-spelt-start : tie.Need-part-say-spelt-start
+part-say-spelt-start c = search needs
+
+part-say-spelt-end : tie.Need-part-say-spelt-end
+part-say-spelt-end c = omega (arith, there (c .before .before) .2)
+
+say-spelt-requires : tie.Need-say-spelt-requires
+say-spelt-requires c κs e =
+    let k = c .before .before .before in
+    omega (arith, eqb-true (2 * k .spell .result) (length (rest k)) e, length-part (k .spell .last .1 .0) 0 (k .spell .result) (there k .2))
+
+returns : tie.Need-returns
+returns c =
+    let k = c .before .before .before .before in
+    c .say-spelt .ensures ∙ lettered-by (start k .args .desk) (start k .args .letter) (rest k) _ _ (there k .0) (there k .1)
+
+pub say-lettered-spec : {M : Type 1} → statement M
+say-lettered-spec =
+    tie.close
+    (tie.spec
+    slice-aggregate-spell
+    spell-requires
+    mul-digits
+    sub-say-spelt
+    part-say-spelt-start
+    part-say-spelt-end
+    say-spelt-requires
+    returns)

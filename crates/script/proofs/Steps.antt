@@ -1,0 +1,122 @@
+-- A run at a line: its answer does not fit, or was added.
+use Prim.Native.Nat.{ℕ, _+_, _-_, _*_, _≤_, _<_}
+use mathlib.Core.List.{List, [], _∷_, _++_}
+use mathlib.Core.Path.{_≡_, refl, sym, ap, subst, _∙_}
+use borrow.Author.Tests.{ltb-false}
+use lib.Dec.{ltb}
+use lib.ListN.{length, take, drop, length-take}
+use lib.Seq.{take-append-le}
+use native.Mathlib.Nat.{sub-zero}
+use native.Mathlib.Omega.{arith}
+use Rattle.tables.specs.Choice.{pick-cases, picked, passed}
+use Rattle.wire.specs.Bytes.{part}
+use Rattle.wire.specs.Laws.{length-part}
+use Rattle.text.specs.Shown.{inRoom, Adds}
+use Rattle.text.specs.Adds.{front-laid, front-fits}
+use Rattle.lines.specs.Lines.{lineLength, linesAfter, Said, went, Goes}
+use Rattle.lines.specs.Frames.{frameIn}
+use Rattle.lines.specs.Laws.{Ends, line-ends}
+use Rattle.lines.specs.FrameLaws.{Frame, frame-line, no-frame}
+use Rattle.lines.specs.Sofar.{Sofar, sofar-full, sofar-next, sofar-as}
+use Rattle.answers.specs.Answers.{replyText, replyLine}
+use Rattle.card.specs.declared.Reply.{Reply}
+use Rattle.card.specs.Outcome.{Outcome, replyOf, Answered}
+use Rattle.desk.specs.declared.Desk.{Desk}
+use Rattle.letters.specs.declared.Told.{Told}
+use Rattle.letters.specs.Letters.{saidOf, withCard, otherSaid}
+use Rattle.script.specs.Lines.{lentRoom, replied, commandedOn, lineSaid}
+
+-- ---- a reply read back from the part of the buffer that was lent; f is the outcome by the length of that part
+
+-- the reply r is that of the outcome o, and its bytes lie at the front of a buffer
+abbrev pub Plays : Outcome → List ℕ → Reply → Type 0
+Plays o after r = (r ≡ replyOf o) × (take (length (o .out)) after ≡ o .out) × (length (o .out) ≤ 512)
+
+plays-part : (f : ℕ → Outcome) (reply after : List ℕ) (room : ℕ) (r : Reply) → room ≤ 512 → 512 ≤ length reply
+    → length after ≡ length (part reply 0 room) → Answered (f (length (part reply 0 room))) (part reply 0 room) after r
+    → Plays (f room) (after ++ drop (room - 0) reply) r
+plays-part f reply after room r h k l a =
+    let n : length (part reply 0 room) ≡ room = length-part reply 0 room (omega arith) ∙ sub-zero room in
+    let o = f room in
+    let b : Answered o (part reply 0 room) after r = rw n at a in
+    let x : length (o .out) ≤ length (part reply 0 room) = front-fits (part reply 0 room) (o .out) (ap length (sym (b .1)) ∙ l) in
+    let t : take (length (o .out)) after ≡ o .out = rw (b .1) (front-laid (part reply 0 room) (o .out)) in
+    (b .0, take-append-le (length (o .out)) after (drop (room - 0) reply) (omega arith) ∙ t, omega arith)
+
+pub lent-most : (room : ℕ) → lentRoom room ≤ 512
+unfolding lentRoom
+lent-most room = pick-cases (λ (n : ℕ). n ≤ 512) (ltb 0x200 room) 0x200 room (λ t. omega arith) (λ t. ltb-false 0x200 room t)
+
+pub plays-lent : (f : ℕ → Outcome) (reply after : List ℕ) (m room : ℕ) (r : Reply) → room ≡ lentRoom m → 512 ≤ length reply
+    → length after ≡ length (part reply 0 room) → Answered (f (length (part reply 0 room))) (part reply 0 room) after r
+    → Plays (f (lentRoom m)) (after ++ drop (room - 0) reply) r
+plays-lent f reply after m room r e k l a =
+    subst (λ (n : ℕ). Plays (f n) (after ++ drop (room - 0) reply) r) e (plays-part f reply after room r (omega (arith, lent-most m)) k l a)
+
+-- the bytes of a reply where it lies
+pub reply-bytes : (o : Outcome) (after : List ℕ) (r : Reply) → Plays o after r → (part after 0 (r .len) ≡ o .out) × (r .len ≤ 512)
+unfolding replyOf
+reply-bytes o after r p =
+    let n : r .len ≡ length (o .out) = ap (λ (x : Reply). x .len) (p .0) in
+    (rw (sub-zero (r .len), n) (p .1), rw n (p .2))
+
+module _ (k : Desk) (l : List ℕ) (o : Outcome) (r : Reply) (after : List ℕ) (e : lineSaid k l ≡ replied k o) (p : Plays o after r) where
+  text : lineSaid k l .out ≡ replyText (r .refusal) (part after 0 (r .len))
+  unfolding replied replyOf
+  text =
+      let b = reply-bytes o after r p .0 in
+      let m : r .refusal ≡ o .refusal = ap (λ (x : Reply). x .refusal) (p .0) in
+      ap (λ (x : Said Desk). x .out) e ∙ rw (b, m) refl
+
+  desk : withCard k (r .card) ≡ lineSaid k l .next
+  unfolding replied replyOf
+  desk = ap (λ (x : Reply). withCard k (x .card)) (p .0) ∙ sym (ap (λ (x : Said Desk). x .next) e)
+
+-- a list read at the front of another is no longer
+pub front-holds : (x l : List ℕ) (n : ℕ) → n ≡ length x → part l 0 n ≡ x → n ≤ length l
+front-holds x l n e h = omega (arith, length-take (n - 0) l, ap length h, sub-zero n)
+
+-- ---- a run that has come to place at, where size bytes of a frame were spelt
+
+module _ (k₀ : Desk) (t b : List ℕ) (k : Desk) (at n : ℕ) (out : List ℕ) (s : Sofar lineSaid k₀ t b k at n out) (size : ℕ) (q : size ≡ length (frameIn (drop at t))) where
+  -- some: a command, whose reply is r, in the buffer back
+  module _ (p : 0 < size) where
+    pub line : Frame t at size
+    line = frame-line t at size (s .place) q p
+
+    module _ (f : List ℕ) (w : f ≡ frameIn (drop at t)) (back : List ℕ) (r : Reply) (v : Plays (commandedOn k f) back r) where
+      command : lineSaid k (part t at (at + 2 * size)) ≡ replied k (commandedOn k f)
+      unfolding lineSaid
+      command = picked _ _ (line .2) ∙ ap (λ (x : List ℕ). replied k (commandedOn k x)) (line .3 ∙ sym w)
+
+      module _ (x : List ℕ) (m : ℕ) (a : Adds (inRoom (length out - n) (replyLine (r .refusal) (part back 0 (r .len)))) out n x m) where
+        said : Adds (inRoom (length out - n) (lineSaid k (part t at (at + 2 * size)) .out ++ 0x0A ∷ [])) out n x m
+        unfolding replyLine
+        said = rw (text k (part t at (at + 2 * size)) _ r back command v) a
+
+        pub played-full : m ≡ n → Goes (went lineSaid k₀ (linesAfter [] t) (length b)) b x k at n
+        played-full z = sofar-full lineSaid k₀ t b k at n out s _ (line .0) (omega arith) (line .1) x m said z
+
+        pub played-next : (m ≡ n → ⊥) → Sofar lineSaid k₀ t b (withCard k (r .card)) (at + 2 * size + 1) m x
+        played-next z = sofar-as lineSaid k₀ t b _ _ _ m x (desk k (part t at (at + 2 * size)) _ r back command v) (sofar-next lineSaid k₀ t b k at n out s _ (line .0) (omega arith) (line .1) x m said z)
+
+  -- none: another line, up to place e
+  module _ (z : size ≤ 0) (e : ℕ) (g : e ≡ at + lineLength (drop at t)) where
+    pub ends : Ends t at e
+    ends = line-ends t at (s .place) g
+
+    module _ (i : e < length t) (d : Told) (c : saidOf d ≡ otherSaid k (part t at e)) where
+      other : saidOf d ≡ lineSaid k (part t at e)
+      unfolding lineSaid
+      other = c ∙ sym (passed _ _ (no-frame t at size (s .place) q (omega arith) e g i))
+
+      module _ (x : List ℕ) (m : ℕ) (a : Adds (inRoom (length out - n) (saidOf d .out ++ 0x0A ∷ [])) out n x m) where
+        told : Adds (inRoom (length out - n) (lineSaid k (part t at e) .out ++ 0x0A ∷ [])) out n x m
+        told = rw other at a
+
+        pub told-full : m ≡ n → Goes (went lineSaid k₀ (linesAfter [] t) (length b)) b x k at n
+        told-full y = sofar-full lineSaid k₀ t b k at n out s e (ends .0) (ends .1) i x m told y
+
+        pub told-next : (m ≡ n → ⊥) → Sofar lineSaid k₀ t b (d .desk) (e + 1) m x
+        unfolding saidOf
+        told-next y = sofar-as lineSaid k₀ t b _ _ _ m x (ap (λ (v : Said Desk). v .next) other) (sofar-next lineSaid k₀ t b k at n out s e (ends .0) (ends .1) i x m told y)
