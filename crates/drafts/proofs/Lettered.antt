@@ -1,7 +1,7 @@
 -- A letter's line and a line of digits, from the bytes that were spelt.
 use Prim.Native.Nat.{ℕ, _*_, _≤_, _<_}
 use mathlib.Core.Bool.{Bool, true, false, _&&_, _||_}
-use mathlib.Core.List.{List, []}
+use mathlib.Core.List.{List}
 use mathlib.Core.Path.{_≡_, refl, sym, ap, _∙_}
 use borrow.Author.Tests.{eqb-true, lt-ltb, le-ltb, eq-eqb, ne-eqb}
 use lib.Dec.{eqb}
@@ -11,7 +11,7 @@ use Rattle.tables.specs.Choice.{pick, picked, passed, order, and-yes, and-right
 use Rattle.wire.specs.Bytes.{part, Shows}
 use Rattle.text.specs.Hex.{isHex, spelt, leading}
 use Rattle.text.specs.Laws.{leading-all, leading-most, hex-test}
-use Rattle.lines.specs.Laws.{spelt-there}
+use Rattle.lines.specs.Laws.{spelt-there, said-by}
 use Rattle.drafts.specs.declared.Draft.{Draft}
 use Rattle.drafts.specs.Drafts.{over, sent, noted, unread, unchanged, authenticated, maced, letteredBy, lettered, drafted}
 
@@ -63,33 +63,26 @@ module _ (d : Draft) (line : List ℕ) (letter : ℕ) where
   unspelt n a b =
       rw (and-right (eqb letter 0x4D) false refl, and-right (eqb letter 0x41 && eqb n 66) false refl, and-right (eqb letter 0x4E && eqb n 40) false refl) (unfold pick in refl)
 
-  leading-same : (rest : List ℕ) → letteredBy d line letter (length rest) (isHex rest) (leading rest) ≡ lettered d line letter rest
-  unfolding lettered
-  leading-same rest = by (isHex rest) refl
-    where
-      by : (b : Bool) → isHex rest ≡ b → letteredBy d line letter (length rest) b (leading rest) ≡ letteredBy d line letter (length rest) b (pick b (spelt rest) [])
-      by true e = unfold pick in ap (letteredBy d line letter (length rest) true) (leading-all rest e)
-      by false e = unspelt (length rest) (leading rest) (pick false (spelt rest) [])
-
   module _ (rest bytes after : List ℕ) (size n : ℕ) (few : length rest ≤ 1024) (room : 512 ≤ length bytes) (ln : n ≡ length rest)
       (s : Shows (take (length bytes) (leading rest)) bytes after size) where
     pub spelt-size : (size ≤ 512) × (size ≡ length (part after 0 size))
     spelt-size =
-        let t = spelt-there rest bytes after size few room s in
+        let t = spelt-there rest bytes after size (omega arith) s in
         let m = leading-most rest in
         (omega (arith, t .1), t .1 ∙ ap length (sym (t .0)))
 
     pub lettered-by : letteredBy d line letter n (eqb (2 * size) n) (part after 0 size) ≡ lettered d line letter rest
+    unfolding lettered
     lettered-by =
-        let t = spelt-there rest bytes after size few room s in
-        (λ i. letteredBy d line letter (ln i) (eqb (2 * t .1 i) (ln i)) (t .0 i))
-        ∙ (ap (λ (b : Bool). letteredBy d line letter (length rest) b (leading rest)) (hex-test rest) ∙ leading-same rest)
+        let t = spelt-there rest bytes after size (omega (arith, few, room)) s in
+        ap (λ (m : ℕ). letteredBy d line letter m (eqb (2 * size) m) (part after 0 size)) ln
+        ∙ said-by (letteredBy d line letter (length rest)) (unspelt (length rest)) rest (part after 0 size) size (t .0) (t .1)
 
 -- a line of digits
 pub digits-by : (line bytes after : List ℕ) (size : ℕ) → length line ≤ 1024 → 512 ≤ length bytes → Shows (take (length bytes) (leading line)) bytes after size
     → (isHex line ≡ eqb (2 * size) (length line)) × (isHex line ≡ true → part after 0 size ≡ spelt line) × (size ≤ 512)
 digits-by line bytes after size few room s =
-    let t = spelt-there line bytes after size few room s in
+    let t = spelt-there line bytes after size (omega arith) s in
     let m = leading-most line in
     (sym (ap (λ (n : ℕ). eqb (2 * n) (length line)) (t .1) ∙ hex-test line), λ e. t .0 ∙ leading-all line e, omega (arith, t .1))
 

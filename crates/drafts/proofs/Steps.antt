@@ -3,12 +3,12 @@ use Prim.Native.Nat.{ℕ, _+_, _-_, _≤_}
 use mathlib.Core.Bool.{Bool, true, false, _&&_}
 use mathlib.Core.List.{List, [], _∷_, _++_}
 use mathlib.Core.Path.{_≡_, refl, sym, ap, subst, _∙_}
-use lib.ListN.{length, getD, take, drop, replicate, length-replicate}
+use lib.ListN.{length, getD, take, drop}
 use native.Mathlib.Nat.{zero-add}
 use native.Mathlib.Omega.{arith}
 use Rattle.tables.specs.Choice.{pick, picked, passed, and-both, and-left, and-right}
-use Rattle.wire.specs.Bytes.{part, laid, laidIn, Shows}
-use Rattle.wire.specs.Laws.{length-part, length-laid, laid-room, laid-all, shows-as}
+use Rattle.wire.specs.Bytes.{part, laidIn, Shows}
+use Rattle.wire.specs.Laws.{length-part, length-laid, laid-room, shows-as}
 use Rattle.text.specs.Hex.{inDigits}
 use Rattle.text.specs.Shown.{digitsIn, Adds}
 use Rattle.text.specs.Laws.{length-digits, digits-shown}
@@ -23,13 +23,6 @@ use Rattle.drafts.specs.Drafts.{counted, opened, authenticated, unread, 
 
 pub writes-as : {o p : Said Draft} (b after : List ℕ) (r : Step) → o ≡ p → Writes o b after r → Writes p b after r
 writes-as b after r e w = subst (λ (x : Said Draft). Writes x b after r) e w
-
--- n bytes laid over an array of as many zeros
-pub part-whole : (n : ℕ) (b : List ℕ) (at e : ℕ) → e ≤ length b → e - at ≡ n → laidIn (replicate n 0) 0 (part b at e) ≡ part b at e
-part-whole n b at e h k =
-    let l = length-part b at e h in
-    let z = length-replicate {A = ℕ} n 0 in
-    laid-room (replicate n 0) 0 (part b at e) (omega arith) ∙ laid-all (replicate n 0) (part b at e) (omega arith)
 
 -- ---- two frames, a line each
 

@@ -9,7 +9,7 @@ use notices::Notice;
 use orders::Order;
 ghost use mathlib.Core.Path.{_≡_};
 ghost use mathlib.Core.Bool.{true};
-ghost use Prim.Native.Nat.{_+_, _*_, _≤_};
+ghost use Prim.Native.Nat.{_+_, _*_};
 ghost use lib.ListN.{length, getD};
 ghost use Rattle.card.specs.Events.{personalised, sessionChanged};
 ghost use Rattle.orders.specs.Order.{orderIn};
@@ -120,12 +120,17 @@ fn say_spelt(desk: Desk, letter: u8, n: usize, digits: bool, b: &[u8]) -> Told
     }
 }
 
-// A letter and the characters behind it.
+// A letter and the characters behind it: for an order with keys 208, and for no other line more.
 pub(crate) fn say_lettered(desk: Desk, letter: u8, rest: &[u8]) -> Told
-    requires { ⌜ length (now rest) ≤ 1024 ⌝ }
     ensures { λ r. ⌜ saidOf r ≡ lettered desk letter (now (rest .entry)) ⌝ }
 {
-    let mut bytes = [0u8; 512];
+    if 208 < rest.len() {
+        return Told {
+            desk,
+            notice: Notice::Unread,
+        };
+    }
+    let mut bytes = [0u8; 104];
     let n = text::spell(rest, &mut bytes);
     let digits = 2 * n == rest.len();
     say_spelt(desk, letter, rest.len(), digits, &bytes[0..n])

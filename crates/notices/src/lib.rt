@@ -2,7 +2,6 @@
 use channel::Stage;
 use logbook::Log;
 use purse::Purse;
-ghost use mathlib.Core.Path.{_≡_};
 ghost use mathlib.Core.List.{[], _∷_, _++_};
 ghost use Prim.Native.Nat.{_-_, _≤_};
 ghost use lib.ListN.{length};

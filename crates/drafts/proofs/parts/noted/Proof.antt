@@ -1,6 +1,5 @@
 use Rattle.drafts.specs.Drafts.{noted}
-use Rattle.drafts.proofs.Steps.{part-whole}
-use mathlib.Core.Path.{refl, _∙_}
+use Rattle.lines.specs.Laws.{part-laid}
 use native.Mathlib.Omega.{arith}
 use denote.Ref.{now}
 use borrow.Author.Needs.{needs}
@@ -27,7 +26,7 @@ lay-requires c κs = search needs
 
 returns : tie.Need-returns
 unfolding noted
-returns c = let a = c .before .before .before .before .before .before .args in let e = c .before .lay .ensures ∙ part-whole 4 (now (a .b)) 16 20 (omega (arith, c .before .before .before .before .before .before .pre)) refl in λ i. record { random = c .before .before .before .before .sixteen .ensures i; identifier = e i; held = a .draft .held; key = a .draft .key; ti = a .draft .ti; counter = a .draft .counter }
+returns c = let a = c .before .before .before .before .before .before .args in let e = part-laid (now (a .b)) 16 20 (omega (arith, c .before .before .before .before .before .before .pre)) (c .before .lay .ensures) in λ i. record { random = c .before .before .before .before .sixteen .ensures i; identifier = e i; held = a .draft .held; key = a .draft .key; ti = a .draft .ti; counter = a .draft .counter }
 
 pub noted-spec : {M : Type 1} → statement M
 noted-spec =

@@ -1,6 +1,8 @@
-use Rattle.drafts.proofs.Steps.{part-whole}
+use Rattle.lines.specs.Laws.{part-laid}
+use Rattle.wire.specs.Bytes.{part, laidIn}
+use lib.ListN.{replicate}
 use Prim.Native.Nat.{_+_, _-_}
-use mathlib.Core.Path.{_≡_, _∙_}
+use mathlib.Core.Path.{_≡_, ap, _∙_}
 use native.Mathlib.Omega.{arith}
 use denote.Ref.{now}
 use borrow.Author.Needs.{needs}
@@ -26,7 +28,10 @@ lay-requires : tie.Need-lay-requires
 lay-requires c κs = search needs
 
 returns : tie.Need-returns
-returns c = let a = c .before .before .before .before .before .args in let l : a .at + 16 - a .at ≡ 16 = omega arith in c .before .lay .ensures ∙ part-whole 16 (now (a .b)) (a .at) (a .at + 16) (c .before .before .before .before .before .pre) l
+returns c =
+    let a = c .before .before .before .before .before .args in
+    let l : 16 ≡ a .at + 16 - a .at = omega arith in
+    part-laid (now (a .b)) (a .at) (a .at + 16) (c .before .before .before .before .before .pre) (c .before .lay .ensures ∙ ap (λ n. laidIn (replicate n 0) 0 (part (now (a .b)) (a .at) (a .at + 16))) l)
 
 pub sixteen-spec : {M : Type 1} → statement M
 sixteen-spec =

@@ -1,6 +1,6 @@
 use Rattle.notices.specs.Notices.{noticeText}
 use Rattle.letters.specs.Letters.{saidOf, inputsIn, handed}
-use Rattle.letters.proofs.Steps.{part-laid}
+use Rattle.lines.specs.Laws.{part-laid}
 use denote.Ref.{now}
 use native.Mathlib.Omega.{arith}
 use borrow.Author.Needs.{needs}

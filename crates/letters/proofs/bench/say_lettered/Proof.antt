@@ -1,5 +1,7 @@
 use Rattle.lines.specs.Laws.{spelt-there}
-use Rattle.letters.proofs.Steps.{lettered-by}
+use Rattle.letters.proofs.Steps.{lettered-by, lettered-long}
+use Rattle.letters.specs.Letters.{saidOf, unread}
+use Rattle.notices.specs.Notices.{noticeText}
 use Rattle.text.specs.Hex.{leading}
 use Rattle.text.specs.Laws.{leading-most}
 use Rattle.wire.specs.Bytes.{part}
@@ -18,13 +20,17 @@ use Rattle.letters.proofs.bench.say_lettered.Tie as tie
 -- the bytes behind the letter are spelt
 module _ (k : tie.After-spell) where
   abbrev start : tie.Start
-  start = k .before .before .before
+  start = k .before .before .before .before
 
   abbrev rest : List ℕ
   rest = now (start .args .rest)
 
   there : (part (k .spell .last .1 .0) 0 (k .spell .result) ≡ leading rest) × (k .spell .result ≡ length (leading rest)) × (k .spell .result ≤ length (k .spell .last .1 .0))
-  there = spelt-there rest (replicate 512 0) _ _ (start .pre) (omega arith) (k .spell .ensures)
+  there = spelt-there rest (replicate 104 0) _ _ (omega (arith, k .before .before .if1 .left)) (k .spell .ensures)
+
+returns : tie.Need-returns
+unfolding saidOf noticeText unread
+returns c = let a = c .before .before .args in lettered-long (a .desk) (a .letter) (now (a .rest)) (c .if1 .taken)
 
 slice-aggregate-spell : tie.Need-slice-aggregate-spell
 slice-aggregate-spell c = search needs
@@ -49,8 +55,8 @@ say-spelt-requires c κs e =
     let k = c .before .before .before in
     omega (arith, eqb-true (2 * k .spell .result) (length (rest k)) e, length-part (k .spell .last .1 .0) 0 (k .spell .result) (there k .2))
 
-returns : tie.Need-returns
-returns c =
+returns-2 : tie.Need-returns-2
+returns-2 c =
     let k = c .before .before .before .before in
     c .say-spelt .ensures ∙ lettered-by (start k .args .desk) (start k .args .letter) (rest k) _ _ (there k .0) (there k .1)
 
@@ -58,6 +64,7 @@ pub say-lettered-spec : {M : Type 1} → statement M
 say-lettered-spec =
     tie.close
     (tie.spec
+    returns
     slice-aggregate-spell
     spell-requires
     mul-digits
@@ -65,4 +72,4 @@ say-lettered-spec =
     part-say-spelt-start
     part-say-spelt-end
     say-spelt-requires
-    returns)
+    returns-2)
