@@ -1,7 +1,7 @@
 //! A bench program with one fault, for testing `compare`: a command answered
 //! 91BE, or the status given as an argument, leaves the card as it was, instead
 //! of ending the session and dropping pending work. With the argument `crash`,
-//! it ends after ten lines instead.
+//! it ends after ten lines instead, each answered before the next is read.
 
 #![forbid(unsafe_code)]
 
@@ -17,13 +17,15 @@ fn main() -> io::Result<()> {
     let mut answer = Vec::new();
     for (number, line) in io::stdin().lock().split(b'\n').enumerate() {
         if crash && number == 10 {
-            output.flush()?;
             std::process::exit(9);
         }
         let before = bench.clone();
         answer.clear();
         bench.line(&line?, &mut answer);
         output.write_all(&answer)?;
+        if crash {
+            output.flush()?;
+        }
         if answer == kept.as_bytes() {
             bench = before;
         }

@@ -11,18 +11,22 @@
 //! * [`terminal`]: what a terminal sends, for both.
 //! * [`frames`], [`hex`], [`rng`]: what both are made with.
 //! * [`child`]: running another bench program on a script.
+//! * [`reader`]: a bench program's card in a virtual PC/SC reader.
+//! * [`check`]: trying that reader, and the card as a library.
 
 #![forbid(unsafe_code)]
 #![warn(missing_docs)]
 
 pub mod aes;
 pub mod bench;
+pub mod check;
 pub mod child;
 pub mod cmac;
 pub mod frames;
 pub mod hex;
 pub mod messaging;
 pub mod model;
+pub mod reader;
 pub mod rng;
 pub mod scripts;
 pub mod tally;

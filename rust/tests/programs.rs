@@ -6,7 +6,9 @@ use std::io::{BufRead, BufReader, Write};
 use std::path::{Path, PathBuf};
 use std::process::{Command, Output, Stdio};
 
+const CHECK: &str = env!("CARGO_BIN_EXE_check");
 const COMPARE: &str = env!("CARGO_BIN_EXE_compare");
+const READER: &str = env!("CARGO_BIN_EXE_reader");
 const REFBENCH: &str = env!("CARGO_BIN_EXE_refbench");
 const SPEED: &str = env!("CARGO_BIN_EXE_speed");
 
@@ -158,7 +160,7 @@ fn speed_refuses_programs_that_differ() {
 
 #[test]
 fn help() {
-    for program in [COMPARE, REFBENCH, SPEED] {
+    for program in [CHECK, COMPARE, READER, REFBENCH, SPEED] {
         let output = Command::new(program).arg("--help").output().unwrap();
         assert!(output.status.success());
         assert!(text(&output).contains("Usage:"));
