@@ -1,6 +1,7 @@
 // Between terminal and card: how far a session has come, and what both sides then know.
 use access::Session;
 ghost use mathlib.Core.Path.{_≡_};
+ghost use Rattle.channel.specs.Named.{named, acts};
 ghost use Rattle.channel.specs.Channel.{stageOf, actingOf, stageSound, stageKey, counterOf, countedUp, bare, counted};
 
 // No session; one of the bench, with its key; a first part of AuthenticateEV2First that waits for its second, with its key;
@@ -42,23 +43,42 @@ impl Stage {
     pub fn acting(self) -> Session
         ensures { λ r. ⌜ r ≡ actingOf self ⌝ }
     {
-        match self {
-            Stage::Closed => Session::Nobody,
-            Stage::Bench(k) => Session::Key(k),
-            Stage::Waiting(_) => Session::Nobody,
-            Stage::Real(k, _) => Session::Key(k),
+        let key = self.named();
+        if self.acts() {
+            return Session::Key(key);
         }
+        Session::Nobody
     }
 
     // Whether its key, if it has one, is 0 to 4.
     pub fn is_sound(self) -> bool
         ensures { λ r. ⌜ r ≡ stageSound self ⌝ }
     {
+        let key = self.named();
+        key <= 4
+    }
+
+    // The key that it names; 0 without one. All ways to a key lie at one place, so that no table of jumps is made of them.
+    fn named(self) -> u8
+        ensures { λ r. ⌜ r ≡ named self ⌝ }
+    {
         match self {
-            Stage::Closed => true,
-            Stage::Bench(k) => k <= 4,
-            Stage::Waiting(k) => k <= 4,
-            Stage::Real(k, _) => k <= 4,
+            Stage::Closed => 0,
+            Stage::Bench(k) => k,
+            Stage::Waiting(k) => k,
+            Stage::Real(k, _) => k,
+        }
+    }
+
+    // Whether access is decided by that key.
+    fn acts(self) -> bool
+        ensures { λ r. ⌜ r ≡ acts self ⌝ }
+    {
+        match self {
+            Stage::Closed => false,
+            Stage::Bench(_) => true,
+            Stage::Waiting(_) => false,
+            Stage::Real(_, _) => true,
         }
     }
 

@@ -102,9 +102,15 @@ pub fn is_data(n: u8) -> bool
 pub fn suits_file(ins: u8, n: u8) -> bool
     ensures { λ r. ⌜ r ≡ suits ins n ⌝ }
 {
+    let value = on_value(ins);
+    if value & (n == table::VALUE_03) {
+        return true;
+    }
     let bytes = is_data(n);
     let data = on_data(ins);
-    let value = on_value(ins);
+    if data & bytes {
+        return true;
+    }
     let log = on_log(ins);
-    (data & bytes) | (value & (n == table::VALUE_03)) | (log & (n == table::LOG_01))
+    log & (n == table::LOG_01)
 }

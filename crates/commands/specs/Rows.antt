@@ -91,13 +91,20 @@ usedUp g i = isBase i && eqb (counterOf g) 0xFFFF
 unfoldable pub switchedOff : ℕ → Bool → Bool → Bool
 switchedOff i limited clears = (eqb i limitedCredit && not limited) || (eqb i writeRecord && clears)
 
--- amount of 0 or negative; write of length 0; commit option not 00h; authentication key above 4 or LRP bit set
+-- amount of 0 or negative; authentication key above 4 or LRP bit set
+abbrev pub noAmount : List ℕ → Bool
+noAmount d = eqb (amountOf d) 0 || leb 0x80000000 (amountOf d)
+
+abbrev pub noKey : List ℕ → Bool
+noKey d = ltb 4 (keyIn d) || eqb (lrpIn d) 1
+
+-- these; write of length 0; commit option not 00h
 unfoldable pub parameterCases : ℕ → List ℕ → List Bool
 parameterCases i d =
-    ((eqb i credit || eqb i debit || eqb i limitedCredit) && (eqb (amountOf d) 0 || leb 0x80000000 (amountOf d)))
+    ((eqb i credit || eqb i debit || eqb i limitedCredit) && noAmount d)
     ∷ ((eqb i writeData || eqb i writeRecord) && eqb (lengthOf d) 0)
     ∷ (eqb i commitTransaction && not (eqb (optionOf d) 0))
-    ∷ (eqb i authenticateFirst && (ltb 4 (keyIn d) || eqb (lrpIn d) 1))
+    ∷ (eqb i authenticateFirst && noKey d)
     ∷ []
 
 abbrev pub badParameter : ℕ → List ℕ → Bool

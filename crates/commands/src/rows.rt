@@ -14,7 +14,7 @@ ghost use mathlib.Core.Path.{_≡_};
 ghost use Rattle.access.specs.Rights.{isNever, isNotGranted};
 ghost use Rattle.channel.specs.Channel.{isWaiting};
 ghost use Rattle.columns.specs.Table.{isBase, isFile};
-ghost use Rattle.commands.specs.Rows.{unknownCommand, interrupts, wrongLength, lacksMac, unknownFile, otherKindOrNever, notGranted, partFails, forged, usedUp, switchedOff, badParameter, ranged, roomOf, outsideAmount, outside, longRead, nothingPending};
+ghost use Rattle.commands.specs.Rows.{unknownCommand, interrupts, wrongLength, lacksMac, unknownFile, otherKindOrNever, notGranted, partFails, forged, usedUp, switchedOff, noAmount, noKey, badParameter, ranged, roomOf, outsideAmount, outside, longRead, nothingPending};
 
 fn is_base(ins: u8) -> bool
     ensures { λ r. ⌜ r ≡ isBase ins ⌝ }
@@ -175,18 +175,49 @@ pub fn switched_off(ins: u8, limited: bool, clears: bool) -> bool
     ((ins == table::LIMITED_CREDIT) & !limited) | ((ins == table::WRITE_RECORD) & clears)
 }
 
+// Whether an amount is 0 or negative.
+fn is_no_amount(d: &[u8]) -> bool
+    ensures { λ r. ⌜ r ≡ noAmount (now (d .entry)) ⌝ }
+{
+    let amount = wire::le4_at(d, 1);
+    (amount == 0) | (0x80000000 <= amount)
+}
+
+// Whether a first part names a key above 4 or sets the LRP bit.
+fn is_no_key(d: &[u8]) -> bool
+    ensures { λ r. ⌜ r ≡ noKey (now (d .entry)) ⌝ }
+{
+    let key = wire::byte_at(d, 0);
+    let caps = wire::byte_at(d, 2);
+    (4 < key) | (caps / 2 % 2 == 1)
+}
+
+// A command's own parameter is read for that command alone: a read of four bytes with its bounds costs more than the choice.
 pub fn bad_parameter(ins: u8, d: &[u8]) -> bool
     ensures { λ r. ⌜ r ≡ badParameter ins (now (d .entry)) ⌝ }
 {
-    let amount = wire::le4_at(d, 1);
-    let len = wire::le3_at(d, 4);
-    let option = wire::byte_at(d, 0);
-    let caps = wire::byte_at(d, 2);
-    (((ins == table::CREDIT) | (ins == table::DEBIT) | (ins == table::LIMITED_CREDIT))
-        & ((amount == 0) | (0x80000000 <= amount)))
-        | (((ins == table::WRITE_DATA) | (ins == table::WRITE_RECORD)) & (len == 0))
-        | ((ins == table::COMMIT_TRANSACTION) & (option != 0))
-        | ((ins == table::AUTHENTICATE_FIRST) & ((4 < option) | (caps / 2 % 2 == 1)))
+    if ins == table::CREDIT {
+        return is_no_amount(d);
+    }
+    if ins == table::DEBIT {
+        return is_no_amount(d);
+    }
+    if ins == table::LIMITED_CREDIT {
+        return is_no_amount(d);
+    }
+    if ins == table::WRITE_DATA {
+        return wire::le3_at(d, 4) == 0;
+    }
+    if ins == table::WRITE_RECORD {
+        return wire::le3_at(d, 4) == 0;
+    }
+    if ins == table::COMMIT_TRANSACTION {
+        return wire::byte_at(d, 0) != 0;
+    }
+    if ins == table::AUTHENTICATE_FIRST {
+        return is_no_key(d);
+    }
+    false
 }
 
 // Whether the command has an offset and a length.

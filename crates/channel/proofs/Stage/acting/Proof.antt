@@ -1,40 +1,21 @@
-use borrow.Author.Needs.{needs}
+use mathlib.Core.Path.{sym, _∙_}
+use Rattle.channel.specs.Named.{acts-as, acts-not}
 use Rattle.channel.proofs.Stage.acting.Statement.{statement}
 use Rattle.channel.proofs.Stage.acting.Tie as tie
 
-enum-told : tie.Need-enum-told
-enum-told c = search needs
+named-requires : tie.Need-named-requires
+named-requires c κs = tt
 
-enum-known-self : tie.Need-enum-known-self
-enum-known-self c = search needs
-
-enum-told-2 : tie.Need-enum-told-2
-enum-told-2 c = search needs
-
-enum-known-self-2 : tie.Need-enum-known-self-2
-enum-known-self-2 c = search needs
+acts-requires : tie.Need-acts-requires
+acts-requires c κs = tt
 
 returns : tie.Need-returns
-returns c = search needs
+returns c =
+    let n = c .before .before in
+    rw (n .named .ensures) (acts-as (n .before .args .self) (sym (c .before .acts .ensures) ∙ c .if1 .taken))
 
 returns-2 : tie.Need-returns-2
-returns-2 c = cc
-
-returns-3 : tie.Need-returns-3
-returns-3 c = search needs
-
-returns-4 : tie.Need-returns-4
-returns-4 c = cc
+returns-2 c = acts-not (c .before .before .before .args .self) (sym (c .before .acts .ensures) ∙ c .if1 .left)
 
 pub acting-spec : {M : Type 1} → statement M
-acting-spec =
-    tie.close
-    (tie.spec
-    enum-told
-    enum-known-self
-    enum-told-2
-    enum-known-self-2
-    returns
-    returns-2
-    returns-3
-    returns-4)
+acting-spec = tie.close (tie.spec named-requires acts-requires returns returns-2)
