@@ -34,10 +34,10 @@ use Rattle.channel.specs.declared.Inputs.{Inputs}
 use Rattle.channel.specs.Channel.{counted}
 use Rattle.description.specs.Description.{described, describedIn}
 use Rattle.description.specs.Laws.{described-small}
-use Rattle.commands.specs.State.{Core, State}
-use Rattle.commands.specs.Rows.{outside, longRead, ok}
+use Rattle.rows.specs.State.{Core, State}
+use Rattle.rows.specs.Rows.{outside, longRead, ok}
 use Rattle.commands.specs.PlacesLaws.{entries-view}
-use Rattle.commands.specs.Laws.{read-inside, entries-inside, credit-inside, debit-inside, rebook-inside}
+use Rattle.rows.specs.Laws.{read-inside, entries-inside, credit-inside, debit-inside, rebook-inside}
 use Rattle.standing.specs.Parts.{logBroken}
 use Rattle.effects.specs.Effects.{purseAfter, journalAfter, filesAfter}
 use Rattle.effects.specs.Guarded.{purseIn}

@@ -24,9 +24,9 @@ use Rattle.columns.specs.Table.{authenticateFirst, authenticateSecond}
 use Rattle.frames.specs.Frame.{insOf, dataOf}
 use Rattle.settings.specs.declared.Settings.{Settings}
 use Rattle.settings.specs.Settings.{alike, rightsBroken}
-use Rattle.commands.specs.State.{State}
-use Rattle.commands.specs.Modes.{plainOf}
-use Rattle.commands.specs.Rows.{ok, macedIn, statusOf}
+use Rattle.rows.specs.State.{State}
+use Rattle.modes.specs.Modes.{plainOf}
+use Rattle.rows.specs.Rows.{ok, macedIn, statusOf}
 use Rattle.effects.specs.Effects.{purseAfter, journalAfter, filesAfter}
 use Rattle.replies.specs.Replies.{shownOf}
 use Rattle.card.specs.declared.Card.{Card}

@@ -28,10 +28,10 @@ use Rattle.authentication.specs.Guarded.{openedIn, opens-whole}
 use Rattle.columns.specs.Table.{writeData, authenticateFirst, authenticateSecond, shows}
 use Rattle.frames.specs.Frame.{insOf, dataOf}
 use Rattle.settings.specs.declared.Settings.{Settings}
-use Rattle.commands.specs.State.{State}
-use Rattle.commands.specs.Modes.{plainOf}
-use Rattle.commands.specs.Rows.{wrongLength, outside, ok, macedIn, statusOf, commandStatus}
-use Rattle.commands.specs.Laws.{command-ok, inside, long-enough, first-plain, second-plain, second-length}
+use Rattle.rows.specs.State.{State}
+use Rattle.modes.specs.Modes.{plainOf}
+use Rattle.rows.specs.Rows.{wrongLength, outside, ok, macedIn, statusOf, commandStatus}
+use Rattle.rows.specs.Laws.{command-ok, inside, long-enough, first-plain, second-plain, second-length}
 use Rattle.effects.specs.Effects.{purseAfter, journalAfter, filesAfter}
 use Rattle.effects.specs.Guarded.{purseIn}
 use Rattle.replies.specs.Guarded.{shownIn}

@@ -12,9 +12,9 @@ use Rattle.frames.specs.declared.Faults.{Faults}
 use Rattle.frames.specs.Faults.{faultsOf}
 use Rattle.frames.specs.Frame.{insOf, dataOf, wrongSize, wrongClass, wrongParameters, wrongFrame}
 use Rattle.commands.specs.declared.Places.{Places}
-use Rattle.commands.specs.State.{Core}
+use Rattle.rows.specs.State.{Core}
 use Rattle.commands.specs.Places.{placesUnder, placesOf}
-use Rattle.commands.specs.Rows.{macedIn, rowsOf, ok, statusOf, commandStatus}
+use Rattle.rows.specs.Rows.{macedIn, rowsOf, ok, statusOf, commandStatus}
 use Rattle.card.specs.declared.order.Checked.{Checked}
 
 -- places 1 to 4

@@ -11,7 +11,7 @@ use Rattle.wire.specs.Laws.{laid-room, laid-twice, length-laid, length-word, sh
 use Rattle.channel.specs.declared.Channel.{Channel}
 use Rattle.channel.specs.Channel.{counterOf}
 use Rattle.sealing.specs.Sealing.{sealOf}
-use Rattle.commands.specs.Rows.{ok}
+use Rattle.rows.specs.Rows.{ok}
 use Rattle.card.specs.Events.{macBehind}
 
 abbrev pub behind : Bool → Channel → List ℕ → List ℕ

@@ -1,6 +1,6 @@
 -- The card as the program holds it, and the state that it stands for. They differ in the log alone.
 use mathlib.Core.Bool.{Bool}
-use Rattle.commands.specs.State.{Core, State}
+use Rattle.rows.specs.State.{Core, State}
 use Rattle.settings.specs.declared.Settings.{Settings}
 use Rattle.purse.specs.declared.Purse.{Purse}
 use Rattle.logbook.specs.declared.Log.{Log}

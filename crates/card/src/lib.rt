@@ -7,7 +7,6 @@ use channel::Channel;
 use channel::Inputs;
 use channel::Stage;
 use columns::table;
-use commands::modes;
 use datafiles::Files;
 use keys::Keys;
 use logbook::Log;

@@ -6,9 +6,9 @@ use lib.ListN.{length}
 use Rattle.access.specs.declared.Access.{Access}
 use Rattle.frames.specs.Frame.{fileOf}
 use Rattle.commands.specs.declared.Places.{Places}
-use Rattle.commands.specs.State.{Core, logPending}
-use Rattle.commands.specs.Modes.{accessFor, plainOf}
-use Rattle.commands.specs.Rows.{unknownCommand, interrupts, wrongLength, lacksMac, unknownFile, otherKindOrNever, notGranted, partFails, forged, usedUp, switchedOff, badParameter, outside, longRead, nothingPending, macedIn}
+use Rattle.rows.specs.State.{Core, logPending}
+use Rattle.modes.specs.Modes.{accessFor, plainOf}
+use Rattle.rows.specs.Rows.{unknownCommand, interrupts, wrongLength, lacksMac, unknownFile, otherKindOrNever, notGranted, partFails, forged, usedUp, switchedOff, badParameter, outside, longRead, nothingPending, macedIn}
 
 -- where access to the file is a, and m says that the data field x is d with a MAC
 unfoldable pub placesUnder : Access → Bool → Core → ℕ → List ℕ → List ℕ → Places

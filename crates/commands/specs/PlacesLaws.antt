@@ -17,9 +17,9 @@ use Rattle.channel.specs.Channel.{actingOf}
 use Rattle.settings.specs.declared.Settings.{Settings}
 use Rattle.settings.specs.Settings.{accessTo}
 use Rattle.frames.specs.Frame.{fileOf}
-use Rattle.commands.specs.State.{logPending}
-use Rattle.commands.specs.Modes.{macedUnder, plainOf}
-use Rattle.commands.specs.Rows.{unknownCommand, interrupts, wrongLength, lacksMac, unknownFile, otherKindOrNever, notGranted, partFails, forged, usedUp, switchedOff, badParameter, outside, longRead, nothingPending}
+use Rattle.rows.specs.State.{logPending}
+use Rattle.modes.specs.Modes.{macedUnder, plainOf}
+use Rattle.rows.specs.Rows.{unknownCommand, interrupts, wrongLength, lacksMac, unknownFile, otherKindOrNever, notGranted, partFails, forged, usedUp, switchedOff, badParameter, outside, longRead, nothingPending}
 use Rattle.commands.specs.Places.{placesUnder, placesOf}
 
 pub entries-view : (l : Log) → length (log.view l .entries) ≡ l .count

@@ -1,6 +1,5 @@
 // Places 5 to 13 of the order of checks.
-pub mod modes;
-mod rows;
+mod admission;
 
 use channel::Channel;
 use keys::Keys;
@@ -46,18 +45,19 @@ impl Places {
         let maced = modes::is_maced(access, settings, stage, ins, x);
         let d = modes::plain(maced, x);
         Places {
-            command: rows::unknown_command(stage, ins),
-            waits: rows::interrupts(stage, ins),
-            length: rows::wrong_length(ins, d) | rows::lacks_mac(maced, x),
-            file: rows::unknown_file(ins, n),
-            kind: rows::other_kind_or_never(ins, n, access),
-            grant: rows::not_granted(ins, access) | rows::part_fails(keys, channel, ins, d),
-            seal: rows::is_forged(channel, maced, ins, x) | rows::used_up(stage, ins),
-            off: rows::switched_off(ins, settings.limited, log.clears),
-            value: rows::bad_parameter(ins, d),
-            range: rows::is_outside(settings.limits, purse, log.count, ins, d)
-                | rows::is_long_read(maced, ins, d),
-            nothing: rows::nothing_pending(ins, purse.moved, log.adds | log.clears),
+            command: admission::unknown_command(stage, ins),
+            waits: admission::interrupts(stage, ins),
+            length: admission::wrong_length(ins, d) | admission::lacks_mac(maced, x),
+            file: admission::unknown_file(ins, n),
+            kind: admission::other_kind_or_never(ins, n, access),
+            grant: admission::not_granted(ins, access)
+                | admission::part_fails(keys, channel, ins, d),
+            seal: admission::is_forged(channel, maced, ins, x) | admission::used_up(stage, ins),
+            off: parameters::switched_off(ins, settings.limited, log.clears),
+            value: parameters::bad_parameter(ins, d),
+            range: parameters::is_outside(settings.limits, purse, log.count, ins, d)
+                | parameters::is_long_read(maced, ins, d),
+            nothing: parameters::nothing_pending(ins, purse.moved, log.adds | log.clears),
             maced,
         }
     }

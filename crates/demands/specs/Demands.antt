@@ -16,7 +16,7 @@ use Rattle.channel.specs.declared.Inputs.{Inputs}
 use Rattle.channel.specs.Channel.{isReal, isWaiting, bare, closed}
 use Rattle.frames.specs.Frame.{insOf, dataOf}
 use Rattle.settings.specs.declared.Settings.{Settings}
-use Rattle.commands.specs.Rows.{rowsOf, ok, statusOf}
+use Rattle.rows.specs.Rows.{rowsOf, ok, statusOf}
 use Rattle.card.specs.declared.Card.{Card}
 use Rattle.card.specs.declared.Reply.{Reply}
 use Rattle.card.specs.View.{view, broken}

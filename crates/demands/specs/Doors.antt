@@ -4,7 +4,7 @@ use Prim.Native.Nat.{ℕ}
 use mathlib.Core.List.{List}
 use mathlib.Core.Path.{_≡_, ap}
 use Rattle.channel.specs.declared.Inputs.{Inputs}
-use Rattle.commands.specs.Doors.{paperStatus, status-stays}
+use Rattle.rows.specs.Doors.{paperStatus, status-stays}
 use Rattle.card.specs.declared.Card.{Card}
 use Rattle.card.specs.View.{view}
 use Rattle.card.specs.Outcome.{Outcome}

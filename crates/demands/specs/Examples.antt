@@ -18,12 +18,12 @@ use Rattle.frames.specs.Frame as frame
 use Rattle.settings.specs.declared.Settings.{Settings}
 use Rattle.columns.specs.Table as table
 use Rattle.settings.specs.Settings as settings
-use Rattle.commands.specs.State as state
+use Rattle.rows.specs.State as state
 use Rattle.keys.specs.Keys as keys
 use Rattle.channel.specs.declared.Inputs.{Inputs}
 use Rattle.channel.specs.Channel as channel
-use Rattle.commands.specs.Modes as modes
-use Rattle.commands.specs.Rows as rows
+use Rattle.modes.specs.Modes as modes
+use Rattle.rows.specs.Rows as rows
 use Rattle.effects.specs.Effects as effects
 use Rattle.replies.specs.Replies.{shownOf}
 use Rattle.card.specs.View as card

@@ -11,9 +11,9 @@ use Rattle.access.specs.Rights.{sessionSound}
 use Rattle.frames.specs.Frame.{insOf, dataOf, fileOf, offsetOf, bytesIn, amountOf}
 use Rattle.columns.specs.Table.{writeData, credit, debit, limitedCredit, writeRecord, clearRecordFile, commitTransaction, abortTransaction}
 use Rattle.channel.specs.declared.Inputs.{Inputs}
-use Rattle.commands.specs.State.{Core, State}
-use Rattle.commands.specs.Modes.{plainOf}
-use Rattle.commands.specs.Rows.{ok, macedIn, statusOf}
+use Rattle.rows.specs.State.{Core, State}
+use Rattle.modes.specs.Modes.{plainOf}
+use Rattle.rows.specs.Rows.{ok, macedIn, statusOf}
 use Rattle.card.specs.declared.Card.{Card}
 use Rattle.card.specs.View.{view}
 use Rattle.card.specs.Outcome.{Outcome, replyOf}

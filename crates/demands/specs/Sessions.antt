@@ -15,8 +15,8 @@ use Rattle.channel.specs.Channel.{isWaiting, counterOf, bare}
 use Rattle.sealing.specs.Sealing.{sealOf}
 use Rattle.handshake.specs.Handshake.{macKey}
 use Rattle.frames.specs.Frame.{insOf, dataOf, lrpIn}
-use Rattle.commands.specs.Modes.{plainOf, macOf}
-use Rattle.commands.specs.Rows.{longRead, macedIn, ok, statusOf}
+use Rattle.modes.specs.Modes.{plainOf, macOf}
+use Rattle.rows.specs.Rows.{longRead, macedIn, ok, statusOf}
 use Rattle.card.specs.declared.Card.{Card}
 use Rattle.card.specs.View.{view, onChannel}
 use Rattle.card.specs.Outcome.{Outcome}

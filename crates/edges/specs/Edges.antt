@@ -17,12 +17,12 @@ use Rattle.frames.specs.Frame.{wrongSize, wrongClass, wrongParameters, wrongFra
 use Rattle.settings.specs.declared.Settings.{Settings}
 use Rattle.columns.specs.Table.{onFile, namesFile, isFile, suits}
 use Rattle.settings.specs.Settings.{alike, rightsOf, accessTo, rightsBroken}
-use Rattle.commands.specs.State.{logPending}
+use Rattle.rows.specs.State.{logPending}
 use Rattle.keys.specs.Keys as keys
 use Rattle.channel.specs.declared.Inputs.{Inputs}
 use Rattle.channel.specs.Channel.{counted, bare}
-use Rattle.commands.specs.Modes.{macedUnder, plainOf}
-use Rattle.commands.specs.Rows.{unknownCommand, interrupts, lengthCases, lacksMac, unknownFile, otherKindOrNever, notGranted, partFails, forged, usedUp, switchedOff, parameterCases, ranged, roomOf, amountCases, outside, longRead, nothingPending, rowsOf, statusOf}
+use Rattle.modes.specs.Modes.{macedUnder, plainOf}
+use Rattle.rows.specs.Rows.{unknownCommand, interrupts, lengthCases, lacksMac, unknownFile, otherKindOrNever, notGranted, partFails, forged, usedUp, switchedOff, parameterCases, ranged, roomOf, amountCases, outside, longRead, nothingPending, rowsOf, statusOf}
 use Rattle.effects.specs.Effects.{purseAfter, journalAfter, filesAfter}
 use Rattle.replies.specs.Replies.{shownOf}
 use Rattle.card.specs.declared.Card.{Card}

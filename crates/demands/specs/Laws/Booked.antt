@@ -10,9 +10,9 @@ use Rattle.purse.specs.Purse as purse
 use Rattle.logbook.specs.Journal as journal
 use Rattle.frames.specs.Frame.{insOf, dataOf}
 use Rattle.columns.specs.Table.{commitTransaction}
-use Rattle.commands.specs.State.{State}
+use Rattle.rows.specs.State.{State}
 use Rattle.channel.specs.declared.Inputs.{Inputs}
-use Rattle.commands.specs.Rows.{ok, statusOf}
+use Rattle.rows.specs.Rows.{ok, statusOf}
 use Rattle.effects.specs.Effects.{purseAfter, journalAfter}
 use Rattle.card.specs.Events.{changed, ended, refused, acceptedPlain, accepted, played, withSession}
 use Rattle.demands.specs.Strike.{Line, broken, strike, part, through}

@@ -14,8 +14,8 @@ use Rattle.channel.specs.declared.Inputs.{Inputs}
 use Rattle.channel.specs.Channel.{isReal, isWaiting, countedUp, counted, bare}
 use Rattle.authentication.specs.Authentication.{begun, opened}
 use Rattle.settings.specs.declared.Settings.{Settings}
-use Rattle.commands.specs.State.{State}
-use Rattle.commands.specs.Rows.{ok, statusOf}
+use Rattle.rows.specs.State.{State}
+use Rattle.rows.specs.Rows.{ok, statusOf}
 use Rattle.card.specs.View.{view}
 use Rattle.card.specs.Events.{channelAfter, changed, Played, ended, refused, acceptedPlain, accepted, played, withSession, issued}
 use Rattle.demands.specs.History.{Event, command, session, power, run}

@@ -13,9 +13,9 @@ use Rattle.datafiles.specs.declared.Files.{Files}
 use Rattle.datafiles.specs.Files as files
 use Rattle.frames.specs.Frame.{insOf, dataOf, fileOf, offsetOf, bytesIn}
 use Rattle.columns.specs.Table.{writeData, isData}
-use Rattle.commands.specs.State.{State}
+use Rattle.rows.specs.State.{State}
 use Rattle.channel.specs.declared.Inputs.{Inputs}
-use Rattle.commands.specs.Rows.{ok, statusOf}
+use Rattle.rows.specs.Rows.{ok, statusOf}
 use Rattle.effects.specs.Effects.{filesAfter}
 use Rattle.card.specs.Events.{changed, ended, refused, acceptedPlain, accepted, played, withSession}
 use Rattle.demands.specs.Strike.{Line, posted, broken, idle, posts, through}

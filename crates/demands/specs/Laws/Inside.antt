@@ -15,10 +15,10 @@ use Rattle.datafiles.specs.Files.{sizeOf}
 use Rattle.logbook.specs.Journal.{entrySize}
 use Rattle.frames.specs.Frame.{fileOf, offsetOf, lengthOf, bytesIn, keyIn}
 use Rattle.columns.specs.Table.{writeData, writeRecord, authenticateFirst, isData, onFile, suits}
-use Rattle.commands.specs.State.{Core}
-use Rattle.commands.specs.Modes.{accessFor, macSize, plainOf}
-use Rattle.commands.specs.Rows.{lengthCases, wrongLength, otherKindOrNever, switchedOff, parameterCases, badParameter, outside, macedIn, rowsOf, ok, commandStatus}
-use Rattle.commands.specs.Laws.{command-clear, inside, long-enough, write-inside, entry-inside}
+use Rattle.rows.specs.State.{Core}
+use Rattle.modes.specs.Modes.{accessFor, macSize, plainOf}
+use Rattle.rows.specs.Rows.{lengthCases, wrongLength, otherKindOrNever, switchedOff, parameterCases, badParameter, outside, macedIn, rowsOf, ok, commandStatus}
+use Rattle.rows.specs.Laws.{command-clear, inside, long-enough, write-inside, entry-inside}
 
 -- of the INS i and the data field d
 pub record Cleared (c : Core) (i : ℕ) (d : List ℕ) : Type 0 where

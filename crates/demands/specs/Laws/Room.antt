@@ -18,10 +18,10 @@ use Rattle.sealing.specs.Sealing.{sealOf}
 use Rattle.handshake.specs.Handshake.{rotated, firstReply, broughtA, secondReply}
 use Rattle.authentication.specs.Authentication.{partKey, firstShown, secondShown}
 use Rattle.columns.specs.Table.{authenticateSecond}
-use Rattle.commands.specs.State.{State}
-use Rattle.commands.specs.Modes.{plainOf}
-use Rattle.commands.specs.Rows.{macedIn, wrongLength, ok, commandStatus}
-use Rattle.commands.specs.Laws.{inside, long-enough, second-length}
+use Rattle.rows.specs.State.{State}
+use Rattle.modes.specs.Modes.{plainOf}
+use Rattle.rows.specs.Rows.{macedIn, wrongLength, ok, commandStatus}
+use Rattle.rows.specs.Laws.{inside, long-enough, second-length}
 use Rattle.card.specs.Accepted.{baseShown, shown-small}
 use Rattle.card.specs.Events.{shown, macBehind}
 use Rattle.demands.specs.History.{Handed}

@@ -34,9 +34,9 @@ use Rattle.authentication.specs.Authentication.{begun, opened}
 use Rattle.access.specs.Rights.{sessionSound}
 use Rattle.columns.specs.Table.{writeRecord, authenticateFirst}
 use Rattle.settings.specs.Settings.{rightsBroken}
-use Rattle.commands.specs.State.{Core, State, logPending}
-use Rattle.commands.specs.Rows.{switchedOff}
-use Rattle.commands.specs.Laws.{credit-inside, debit-inside, rebook-inside}
+use Rattle.rows.specs.State.{Core, State, logPending}
+use Rattle.rows.specs.Rows.{switchedOff}
+use Rattle.rows.specs.Laws.{credit-inside, debit-inside, rebook-inside}
 use Rattle.effects.specs.Effects.{purseAfter, journalAfter, filesAfter}
 use Rattle.card.specs.Events.{channelAfter, changed, ended, withSession}
 use Rattle.demands.specs.History.{Handed}

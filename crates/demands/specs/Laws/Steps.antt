@@ -16,9 +16,9 @@ use Rattle.logbook.specs.Journal as journal
 use Rattle.logbook.specs.View as log
 use Rattle.logbook.specs.Laws as logbook
 use Rattle.logbook.specs.FitLaws.{fit-view, joined-room}
-use Rattle.commands.specs.State.{State, logPending}
-use Rattle.commands.specs.Rows.{ok, statusOf}
-use Rattle.commands.specs.Laws.{command-ok}
+use Rattle.rows.specs.State.{State, logPending}
+use Rattle.rows.specs.Rows.{ok, statusOf}
+use Rattle.rows.specs.Laws.{command-ok}
 use Rattle.card.specs.declared.Card.{Card}
 use Rattle.card.specs.View.{view, put}
 use Rattle.standing.specs.Parts.{logBroken, log-few, parted, joined}

@@ -21,10 +21,10 @@ use Rattle.channel.specs.Channel.{isReal, counterOf, countedUp, counted, bare}
 use Rattle.sealing.specs.Sealing.{sealOf}
 use Rattle.frames.specs.Frame.{insOf, dataOf, fileOf}
 use Rattle.columns.specs.Table.{readData, writeData, getValue, credit, debit, limitedCredit, readRecords, writeRecord, clearRecordFile, getFileSettings, authenticateFirst, authenticateSecond, onFile, namesFile, isBase}
-use Rattle.commands.specs.State.{Core, logPending}
-use Rattle.commands.specs.Modes.{accessFor, macedUnder, plainOf, macOf}
-use Rattle.commands.specs.Rows.{unknownCommand, interrupts, lengthCases, wrongLength, lacksMac, unknownFile, otherKindOrNever, notGranted, partFails, forged, usedUp, switchedOff, badParameter, outside, longRead, nothingPending, macedIn, rowsUnder, rowsOf, ok, statusOf}
-use Rattle.commands.specs.Laws.{clear}
+use Rattle.rows.specs.State.{Core, logPending}
+use Rattle.modes.specs.Modes.{accessFor, macedUnder, plainOf, macOf}
+use Rattle.rows.specs.Rows.{unknownCommand, interrupts, lengthCases, wrongLength, lacksMac, unknownFile, otherKindOrNever, notGranted, partFails, forged, usedUp, switchedOff, badParameter, outside, longRead, nothingPending, macedIn, rowsUnder, rowsOf, ok, statusOf}
+use Rattle.rows.specs.Laws.{clear}
 use Rattle.card.specs.declared.Card.{Card}
 use Rattle.card.specs.View.{view, put, broken, onChannel}
 use Rattle.card.specs.Outcome.{Outcome}

@@ -15,8 +15,8 @@ use Rattle.logbook.specs.Journal as journal
 use Rattle.logbook.specs.View as log
 use Rattle.frames.specs.Frame.{insOf, dataOf}
 use Rattle.channel.specs.declared.Inputs.{Inputs}
-use Rattle.commands.specs.Rows.{macedIn, rowsOf, ok, statusOf}
-use Rattle.commands.specs.Laws.{command-ok}
+use Rattle.rows.specs.Rows.{macedIn, rowsOf, ok, statusOf}
+use Rattle.rows.specs.Laws.{command-ok}
 use Rattle.card.specs.declared.Card.{Card}
 use Rattle.card.specs.declared.Reply.{Reply}
 use Rattle.card.specs.View.{view, put}

@@ -7,8 +7,8 @@ use lib.IntN.{ℤ}
 use Rattle.tables.specs.Reasons.{NoReason, none-first}
 use Rattle.keys.specs.declared.Keys.{Keys}
 use Rattle.settings.specs.declared.Settings.{Settings}
-use Rattle.commands.specs.Rows.{rowsOf, ok, statusOf}
-use Rattle.commands.specs.Laws.{clear}
+use Rattle.rows.specs.Rows.{rowsOf, ok, statusOf}
+use Rattle.rows.specs.Laws.{clear}
 use Rattle.card.specs.declared.Card.{Card}
 use Rattle.card.specs.View.{view}
 use Rattle.card.specs.Outcome.{Outcome, answered-one}

@@ -14,8 +14,8 @@ use Rattle.keys.specs.declared.Keys.{Keys}
 use Rattle.channel.specs.declared.Inputs.{Inputs}
 use Rattle.channel.specs.Channel.{closed}
 use Rattle.settings.specs.declared.Settings.{Settings}
-use Rattle.commands.specs.State.{State, logPending}
-use Rattle.commands.specs.Rows.{ok, statusOf}
+use Rattle.rows.specs.State.{State, logPending}
+use Rattle.rows.specs.Rows.{ok, statusOf}
 use Rattle.card.specs.declared.Card.{Card}
 use Rattle.card.specs.View.{view}
 use Rattle.card.specs.Outcome.{Outcome, replyOf}

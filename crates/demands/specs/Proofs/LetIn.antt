@@ -24,10 +24,10 @@ use Rattle.handshake.specs.Handshake.{rotated, capsOf, macKey, firstReply, brou
 use Rattle.authentication.specs.Authentication.{begun, firstShown, opened, secondShown}
 use Rattle.frames.specs.Frame.{insOf, dataOf, lrpIn, wrongSize, wrongClass, wrongParameters, wrongFrame}
 use Rattle.columns.specs.Table.{authenticateFirst, authenticateSecond, onFile, namesFile}
-use Rattle.commands.specs.State.{Core, State}
-use Rattle.commands.specs.Modes.{plainOf}
-use Rattle.commands.specs.Rows.{unknownCommand, interrupts, lengthCases, wrongLength, lacksMac, unknownFile, otherKindOrNever, notGranted, partFails, forged, usedUp, switchedOff, parameterCases, badParameter, ranged, amountCases, outside, longRead, nothingPending, macedIn, rowsOf, ok, statusOf}
-use Rattle.commands.specs.Laws.{first-plain, second-plain}
+use Rattle.rows.specs.State.{Core, State}
+use Rattle.modes.specs.Modes.{plainOf}
+use Rattle.rows.specs.Rows.{unknownCommand, interrupts, lengthCases, wrongLength, lacksMac, unknownFile, otherKindOrNever, notGranted, partFails, forged, usedUp, switchedOff, parameterCases, badParameter, ranged, amountCases, outside, longRead, nothingPending, macedIn, rowsOf, ok, statusOf}
+use Rattle.rows.specs.Laws.{first-plain, second-plain}
 use Rattle.card.specs.declared.Card.{Card}
 use Rattle.card.specs.View.{view, put}
 use Rattle.card.specs.Outcome.{Outcome}

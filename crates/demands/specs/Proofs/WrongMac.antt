@@ -13,8 +13,8 @@ use Rattle.channel.specs.declared.Inputs.{Inputs}
 use Rattle.channel.specs.Channel.{counterOf}
 use Rattle.sealing.specs.Sealing.{sealOf}
 use Rattle.frames.specs.Frame.{insOf, dataOf}
-use Rattle.commands.specs.Modes.{plainOf, macOf}
-use Rattle.commands.specs.Rows.{forged, usedUp, macedIn, rowsOf, ok, statusOf}
+use Rattle.modes.specs.Modes.{plainOf, macOf}
+use Rattle.rows.specs.Rows.{forged, usedUp, macedIn, rowsOf, ok, statusOf}
 use Rattle.card.specs.declared.Card.{Card}
 use Rattle.card.specs.View.{view, put}
 use Rattle.card.specs.Outcome.{Outcome}

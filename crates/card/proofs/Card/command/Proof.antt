@@ -5,7 +5,7 @@ use Rattle.card.specs.Laws.{bench-answers, answered-as, command-short, c
 use Rattle.card.specs.Order.{status-told, maced-told}
 use Rattle.card.specs.View.{view, broken}
 use Rattle.channel.specs.declared.Inputs.{Inputs}
-use Rattle.commands.specs.Rows.{ok, macedIn, statusOf}
+use Rattle.rows.specs.Rows.{ok, macedIn, statusOf}
 use Rattle.frames.specs.Frame.{insOf, dataOf}
 use Rattle.tables.specs.Choice.{pick-both}
 use borrow.Author.Tests.{ne-eqb}

@@ -1,0 +1,165 @@
+// Places 5 to 9a of the order of checks, a test each: whether the card takes the command at all.
+use access::Access;
+use channel::Channel;
+use channel::Stage;
+use columns::Row;
+use columns::table;
+use keys::Keys;
+ghost use mathlib.Core.Path.{_≡_};
+ghost use Rattle.access.specs.Rights.{isNever, isNotGranted};
+ghost use Rattle.channel.specs.Channel.{isWaiting};
+ghost use Rattle.columns.specs.Table.{isBase, isFile};
+ghost use Rattle.rows.specs.Rows.{unknownCommand, interrupts, wrongLength, lacksMac, unknownFile, otherKindOrNever, notGranted, partFails, forged, usedUp};
+
+fn is_base(ins: u8) -> bool
+    ensures { λ r. ⌜ r ≡ isBase ins ⌝ }
+{
+    let row = Row::of_command(ins);
+    row.names | row.ends
+}
+
+fn is_waiting(stage: Stage) -> bool
+    ensures { λ r. ⌜ r ≡ isWaiting stage ⌝ }
+{
+    match stage {
+        Stage::Closed => false,
+        Stage::Bench(_) => false,
+        Stage::Waiting(_) => true,
+        Stage::Real(_, _) => false,
+    }
+}
+
+pub fn unknown_command(stage: Stage, ins: u8) -> bool
+    ensures { λ r. ⌜ r ≡ unknownCommand stage ins ⌝ }
+{
+    let base = is_base(ins);
+    let waits = is_waiting(stage);
+    !(base | (ins == table::AUTHENTICATE_FIRST) | ((ins == table::AUTHENTICATE_SECOND) & waits))
+}
+
+pub fn interrupts(stage: Stage, ins: u8) -> bool
+    ensures { λ r. ⌜ r ≡ interrupts stage ins ⌝ }
+{
+    let waits = is_waiting(stage);
+    waits & (ins != table::AUTHENTICATE_SECOND)
+}
+
+pub fn wrong_length(ins: u8, d: &[u8]) -> bool
+    ensures { λ r. ⌜ r ≡ wrongLength ins (now (d .entry)) ⌝ }
+{
+    let n = d.len();
+    let len = wire::le3_at(d, 4);
+    let with_bytes = len as usize + 7;
+    let caps = wire::byte_at(d, 1);
+    let with_caps = caps as usize + 2;
+    ((ins == table::READ_DATA) & (n != 7))
+        | ((ins == table::WRITE_DATA) & (n != with_bytes))
+        | ((ins == table::GET_VALUE) & (n != 1))
+        | ((ins == table::CREDIT) & (n != 5))
+        | ((ins == table::DEBIT) & (n != 5))
+        | ((ins == table::LIMITED_CREDIT) & (n != 5))
+        | ((ins == table::READ_RECORDS) & (n != 7))
+        | ((ins == table::WRITE_RECORD) & (n != with_bytes))
+        | ((ins == table::CLEAR_RECORD_FILE) & (n != 1))
+        | ((ins == table::COMMIT_TRANSACTION) & (1 < n))
+        | ((ins == table::ABORT_TRANSACTION) & (0 < n))
+        | ((ins == table::GET_FILE_SETTINGS) & (n != 1))
+        | ((ins == table::AUTHENTICATE_FIRST) & ((n < 2) | (n != with_caps)))
+        | ((ins == table::AUTHENTICATE_SECOND) & (n != 32))
+}
+
+pub fn lacks_mac(maced: bool, x: &[u8]) -> bool
+    ensures { λ r. ⌜ r ≡ lacksMac maced (now (x .entry)) ⌝ }
+{
+    maced & (x.len() < modes::MAC_SIZE)
+}
+
+fn is_file(n: u8) -> bool
+    ensures { λ r. ⌜ r ≡ isFile n ⌝ }
+{
+    let bytes = columns::is_data(n);
+    bytes | (n == table::VALUE_03) | (n == table::LOG_01)
+}
+
+pub fn unknown_file(ins: u8, n: u8) -> bool
+    ensures { λ r. ⌜ r ≡ unknownFile ins n ⌝ }
+{
+    let row = Row::of_command(ins);
+    let known = is_file(n);
+    row.names & !known
+}
+
+// What the access decision's answer says of places 8 and 9.
+fn is_never(access: Access) -> bool
+    ensures { λ r. ⌜ r ≡ isNever access ⌝ }
+{
+    match access {
+        Access::Never => true,
+        Access::NotGranted => false,
+        Access::FreeOnly => false,
+        Access::ByKey => false,
+    }
+}
+
+fn is_not_granted(access: Access) -> bool
+    ensures { λ r. ⌜ r ≡ isNotGranted access ⌝ }
+{
+    match access {
+        Access::Never => false,
+        Access::NotGranted => true,
+        Access::FreeOnly => false,
+        Access::ByKey => false,
+    }
+}
+
+pub fn other_kind_or_never(ins: u8, n: u8, access: Access) -> bool
+    ensures { λ r. ⌜ r ≡ otherKindOrNever ins n access ⌝ }
+{
+    let row = Row::of_command(ins);
+    let suited = columns::suits_file(ins, n);
+    let never = is_never(access);
+    row.file & (!suited | never)
+}
+
+pub fn not_granted(ins: u8, access: Access) -> bool
+    ensures { λ r. ⌜ r ≡ notGranted ins access ⌝ }
+{
+    let row = Row::of_command(ins);
+    let refused = is_not_granted(access);
+    row.file & refused
+}
+
+// Nothing of the cryptography runs but for a second part of its right length.
+pub fn part_fails(keys: Keys, channel: Channel, ins: u8, d: &[u8]) -> bool
+    ensures { λ r. ⌜ r ≡ partFails keys channel ins (now (d .entry)) ⌝ }
+{
+    if ins != table::AUTHENTICATE_SECOND {
+        return false;
+    }
+    let stage = channel.stage;
+    let key = keys.at(stage.key());
+    let secret = channel.secret;
+    handshake::is_failed(key, secret, d)
+}
+
+// Nor but for a command that carries a MAC.
+pub fn is_forged(channel: Channel, maced: bool, ins: u8, x: &[u8]) -> bool
+    ensures { λ r. ⌜ r ≡ forged channel maced ins (now (x .entry)) ⌝ }
+{
+    if !maced {
+        return false;
+    }
+    let stage = channel.stage;
+    let secret = channel.secret;
+    let ti = channel.ti;
+    let right = sealing::seal(secret, ins, stage.counter(), ti, modes::plain(maced, x));
+    !wire::is_same(modes::mac(x), &right)
+}
+
+pub fn used_up(stage: Stage, ins: u8) -> bool
+    ensures { λ r. ⌜ r ≡ usedUp stage ins ⌝ }
+{
+    let base = is_base(ins);
+    let counter = stage.counter();
+    base & (counter == 0xFFFF)
+}

@@ -1,0 +1,35 @@
+-- The test of a long read as the code asks it.
+use Prim.Native.Nat.{ℕ, _-_, _+_}
+use mathlib.Core.Bool.{Bool, true, false, not, _&&_}
+use mathlib.Core.List.{List}
+use mathlib.Core.Path.{_≡_, refl, sym, _∙_}
+use borrow.Author.Tests.{ltb-true, ltb-false, lt-ltb, le-ltb, ne-eqb, not-true}
+use lib.Dec.{eqb, ltb}
+use native.Mathlib.Omega.{arith}
+use Rattle.tables.specs.Choice.{and-left, and-right}
+use Rattle.datafiles.specs.Files.{sizeOf, endOf}
+use Rattle.columns.specs.Table.{readData}
+use Rattle.frames.specs.Frame.{fileOf, offsetOf, lengthOf}
+use Rattle.rows.specs.Rows.{longRead}
+
+-- more than 248 bytes, counted from the offset
+past : (off end : ℕ) → ltb (off + 248) end ≡ ltb 248 (end - off)
+past off end = by (ltb 248 (end - off)) refl
+  where
+    by : (b : Bool) → ltb 248 (end - off) ≡ b → ltb (off + 248) end ≡ b
+    by true e = let h = ltb-true 248 (end - off) e in lt-ltb (off + 248) end (omega arith)
+    by false e = let h = ltb-false 248 (end - off) e in le-ltb (off + 248) end (omega arith)
+
+module _ (m : Bool) (i : ℕ) (d : List ℕ) where
+  pub long-other : (i ≡ readData → ⊥) → false ≡ longRead m i d
+  unfolding longRead
+  long-other n = sym (and-left (eqb i readData) _ (ne-eqb _ _ n))
+
+  pub long-plain : not m ≡ true → false ≡ longRead m i d
+  unfolding longRead
+  long-plain e = sym (and-right (eqb i readData) _ (and-left m _ (not-true m e)))
+
+  pub long-by : {off n len end : ℕ} → i ≡ readData → m ≡ true → off ≡ offsetOf d → n ≡ fileOf d → len ≡ lengthOf d → end ≡ endOf (sizeOf n) off len
+      → ltb (off + 248) end ≡ longRead m i d
+  unfolding longRead
+  long-by {off} {end = end} ei em eo en el ee = past off end ∙ rw (ei, em, ee, el, en, eo) refl

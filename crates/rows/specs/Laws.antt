@@ -1,0 +1,110 @@
+-- What status 9100 says of the rows, for each command that a row tests.
+use Prim.Native.Nat.{ℕ}
+use mathlib.Core.Bool.{true, false, not}
+use mathlib.Core.List.{List, []}
+use mathlib.Core.Path.{_≡_, refl, sym, _∙_}
+use borrow.Author.Tests.{not-false, eqb-true}
+use lib.ListN.{length, drop, take}
+use lib.IntN.{pos, _+ℤ_, _-ℤ_}
+use Rattle.tables.specs.Choice.{pick, none, or-no, and-right}
+use Rattle.tables.specs.Reasons.{NoReason, no-reason, first-passes}
+use Rattle.wire.specs.Bytes.{outsideOf}
+use Rattle.datafiles.specs.Files.{sizeOf}
+use Rattle.limits.specs.declared.Limits.{Limits}
+use Rattle.limits.specs.Limits.{within}
+use Rattle.purse.specs.declared.Purse.{Purse}
+use Rattle.logbook.specs.Journal.{entrySize}
+use Rattle.frames.specs.Frame.{insOf, dataOf, fileOf, offsetOf, lengthOf, amountOf}
+use Rattle.columns.specs.Table.{readData, writeData, credit, debit, limitedCredit, readRecords, writeRecord, getFileSettings, authenticateFirst, authenticateSecond, onFile}
+use Rattle.rows.specs.State.{Core}
+use Rattle.channel.specs.Channel.{isReal}
+use Rattle.modes.specs.Modes.{macedUnder, plainOf}
+use Rattle.rows.specs.Rows.{unknownCommand, lengthCases, wrongLength, lacksMac, otherKindOrNever, notGranted, partFails, forged, usedUp, switchedOff, parameterCases, ranged, roomOf, amountCases, outside, longRead, nothingPending, macedIn, rowsOf, ok, statusOf, commandStatus}
+
+-- none of the fifteen rows applies
+pub clear : (c : Core) (f : List ℕ) → statusOf c f ≡ ok → NoReason (rowsOf c f (insOf f) (dataOf f))
+unfolding statusOf rowsOf
+clear c f e = no-reason (rowsOf c f (insOf f) (dataOf f)) ok refl e
+
+-- none from place 5 on
+pub command-clear : (c : Core) (i : ℕ) (x : List ℕ) → commandStatus c i x ≡ ok → NoReason (drop 4 (rowsOf c [] i x))
+unfolding commandStatus rowsOf
+command-clear c i x e = no-reason (drop 4 (rowsOf c [] i x)) ok refl e
+
+pub command-ok : (c : Core) (f : List ℕ) → statusOf c f ≡ ok → commandStatus c (insOf f) (dataOf f) ≡ ok
+unfolding statusOf commandStatus rowsOf
+command-ok c f e =
+    let n = clear c f e in
+    sym (first-passes (take 4 (rowsOf c f (insOf f) (dataOf f))) (drop 4 (rowsOf c [] (insOf f) (dataOf f))) ok (n .0, (n .1 .0, (n .1 .1 .0, (n .1 .1 .1 .0, tt))))) ∙ e
+
+-- GetFileSettings is refused at places 1 to 7, and for its MAC or at the counter's end: places 8 and 9 spare it, and so do those behind
+pub settings-told : (c : Core) (f x : List ℕ) → NoReason (take 2 (drop 8 (rowsOf c f getFileSettings x))) × NoReason (drop 11 (rowsOf c f getFileSettings x))
+unfolding rowsOf otherKindOrNever notGranted onFile partFails switchedOff parameterCases outside ranged amountCases longRead nothingPending pick
+settings-told c f x = ((refl, (refl, tt)), (refl, (refl, (refl, (refl, tt)))))
+
+-- what a row that does not apply says, where it joins two cases
+module _ (c : Core) (i : ℕ) (x : List ℕ) (e : commandStatus c i x ≡ ok) where
+  -- the data field without its MAC
+  abbrev pub plainIn : List ℕ
+  plainIn = plainOf (macedIn c i x) x
+
+  pub known : unknownCommand (c .channel .stage) i ≡ false
+  unfolding rowsOf
+  known = command-clear c i x e .0
+
+  pub long-enough : (wrongLength i plainIn ≡ false) × (lacksMac (macedIn c i x) x ≡ false)
+  unfolding rowsOf
+  long-enough = or-no _ _ (command-clear c i x e .1 .1 .0)
+
+  pub counts : usedUp (c .channel .stage) i ≡ false
+  unfolding rowsOf
+  counts = or-no (forged (c .channel) (macedIn c i x) i x) _ (command-clear c i x e .1 .1 .1 .1 .1 .1 .0) .1
+
+  -- place 12
+  pub inside : (outside (c .settings .limits) (c .purse) (length (c .journal .entries)) i plainIn ≡ false) × (longRead (macedIn c i x) i plainIn ≡ false)
+  unfolding rowsOf
+  inside = or-no _ _ (command-clear c i x e .1 .1 .1 .1 .1 .1 .1 .1 .1 .0)
+
+-- ---- the parts of an authentication
+
+-- they carry no MAC
+pub first-plain : (c : Core) (x : List ℕ) → macedIn c authenticateFirst x ≡ false
+unfolding macedUnder onFile
+first-plain c x = and-right (isReal (c .channel .stage)) false refl
+
+pub second-plain : (c : Core) (x : List ℕ) → macedIn c authenticateSecond x ≡ false
+unfolding macedUnder onFile
+second-plain c x = and-right (isReal (c .channel .stage)) false refl
+
+pub second-length : (d : List ℕ) → wrongLength authenticateSecond d ≡ false → length d ≡ 32
+unfolding lengthCases
+second-length d e = eqb-true (length d) 32 (not-false _ (none (lengthCases authenticateSecond d) e .1 .1 .1 .1 .1 .1 .1 .1 .1 .1 .1 .1 .1 .0))
+
+module _ (l : Limits) (p : Purse) (n : ℕ) (d : List ℕ) where
+  pub read-inside : outside l p n readData d ≡ false → outsideOf (sizeOf (fileOf d)) (offsetOf d) (lengthOf d) ≡ false
+  unfolding outside ranged roomOf pick
+  read-inside e = e
+
+  pub write-inside : outside l p n writeData d ≡ false → outsideOf (sizeOf (fileOf d)) (offsetOf d) (lengthOf d) ≡ false
+  unfolding outside ranged roomOf pick
+  write-inside e = e
+
+  pub entries-inside : outside l p n readRecords d ≡ false → outsideOf n (offsetOf d) (lengthOf d) ≡ false
+  unfolding outside ranged roomOf pick
+  entries-inside e = e
+
+  pub entry-inside : outside l p n writeRecord d ≡ false → outsideOf entrySize (offsetOf d) (lengthOf d) ≡ false
+  unfolding outside ranged roomOf pick
+  entry-inside e = e
+
+  pub credit-inside : outside l p n credit d ≡ false → within l (p .pending +ℤ pos (amountOf d)) ≡ true
+  unfolding outside ranged amountCases pick
+  credit-inside e = not-false _ (none (amountCases l p credit (amountOf d)) e .0)
+
+  pub debit-inside : outside l p n debit d ≡ false → within l (p .pending -ℤ pos (amountOf d)) ≡ true
+  unfolding outside ranged amountCases pick
+  debit-inside e = not-false _ (none (amountCases l p debit (amountOf d)) e .1 .0)
+
+  pub rebook-inside : outside l p n limitedCredit d ≡ false → (not (within l (p .pending +ℤ pos (amountOf d))) ≡ false) × (lib.Dec.ltb (p .left) (amountOf d) ≡ false)
+  unfolding outside ranged amountCases pick
+  rebook-inside e = or-no _ _ (none (amountCases l p limitedCredit (amountOf d)) e .1 .1 .0)

@@ -1,0 +1,4 @@
+pub mod State
+pub mod Rows
+pub mod Laws
+pub mod Doors

@@ -1,0 +1,185 @@
+-- The fifteen reasons for refusal, in the paper's order.
+use Prim.Native.Nat.{ℕ, _+_, _-_}
+use mathlib.Core.Bool.{Bool, not, _&&_, _||_}
+use mathlib.Core.List.{List, [], _∷_}
+use lib.Dec.{ltb, leb, eqb}
+use lib.IntN.{pos, _+ℤ_, _-ℤ_}
+use lib.ListN.{length, drop}
+use Rattle.tables.specs.Choice.{pick, any}
+use Rattle.tables.specs.Reasons.{Reason, _when_, first}
+use Rattle.wire.specs.Bytes.{outsideOf, same}
+use Rattle.datafiles.specs.Files.{sizeOf, endOf}
+use Rattle.limits.specs.declared.Limits.{Limits}
+use Rattle.limits.specs.Limits.{within}
+use Rattle.purse.specs.declared.Purse.{Purse}
+use Rattle.logbook.specs.Journal.{entrySize}
+use Rattle.access.specs.declared.Access.{Access}
+use Rattle.access.specs.Rights.{isNever, isNotGranted}
+use Rattle.keys.specs.declared.Keys.{Keys}
+use Rattle.keys.specs.Keys.{keyAt}
+use Rattle.channel.specs.declared.Stage.{Stage}
+use Rattle.channel.specs.declared.Channel.{Channel}
+use Rattle.channel.specs.Channel.{isWaiting, stageKey, counterOf}
+use Rattle.sealing.specs.Sealing.{sealOf}
+use Rattle.handshake.specs.Handshake.{fails}
+use Rattle.columns.specs.Table.{readData, writeData, getValue, credit, debit, limitedCredit, readRecords, writeRecord, clearRecordFile, commitTransaction, abortTransaction, getFileSettings, authenticateFirst, authenticateSecond, onData, onFile, namesFile, ends, isBase, isFile, suits}
+use Rattle.frames.specs.Frame.{insOf, dataOf, fileOf, offsetOf, lengthOf, amountOf, optionOf, keyIn, capsIn, lrpIn, wrongSize, wrongClass, wrongParameters, wrongFrame}
+use Rattle.rows.specs.State.{Core, logPending}
+use Rattle.modes.specs.Modes.{accessFor, maced, macSize, plainOf, macOf}
+
+-- ---- places 5 to 13: the INS i with the data field d, at the stage g; x is the data field as sent, m that it carries a MAC
+
+-- INS not in the command table; a second part without a first
+unfoldable pub unknownCommand : Stage → ℕ → Bool
+unknownCommand g i = not (isBase i || eqb i authenticateFirst || (eqb i authenticateSecond && isWaiting g))
+
+-- a first part waits and this is not the second
+unfoldable pub interrupts : Stage → ℕ → Bool
+interrupts g i = isWaiting g && not (eqb i authenticateSecond)
+
+-- data field of the wrong length; a write's length field is the number of bytes sent
+unfoldable pub lengthCases : ℕ → List ℕ → List Bool
+lengthCases i d =
+    (eqb i readData && not (eqb (length d) 7))
+    ∷ (eqb i writeData && not (eqb (length d) (lengthOf d + 7)))
+    ∷ (eqb i getValue && not (eqb (length d) 1))
+    ∷ (eqb i credit && not (eqb (length d) 5))
+    ∷ (eqb i debit && not (eqb (length d) 5))
+    ∷ (eqb i limitedCredit && not (eqb (length d) 5))
+    ∷ (eqb i readRecords && not (eqb (length d) 7))
+    ∷ (eqb i writeRecord && not (eqb (length d) (lengthOf d + 7)))
+    ∷ (eqb i clearRecordFile && not (eqb (length d) 1))
+    ∷ (eqb i commitTransaction && ltb 1 (length d))
+    ∷ (eqb i abortTransaction && ltb 0 (length d))
+    ∷ (eqb i getFileSettings && not (eqb (length d) 1))
+    ∷ (eqb i authenticateFirst && (ltb (length d) 2 || not (eqb (length d) (capsIn d + 2))))
+    ∷ (eqb i authenticateSecond && not (eqb (length d) 32))
+    ∷ []
+
+abbrev pub wrongLength : ℕ → List ℕ → Bool
+wrongLength i d = any (lengthCases i d)
+
+-- fewer than eight bytes where a MAC comes off
+unfoldable pub lacksMac : Bool → List ℕ → Bool
+lacksMac m x = m && ltb (length x) macSize
+
+-- file number not in the file table
+unfoldable pub unknownFile : ℕ → ℕ → Bool
+unknownFile i n = namesFile i && not (isFile n)
+
+-- file of another kind; or every condition that could grant the command is Fh
+unfoldable pub otherKindOrNever : ℕ → ℕ → Access → Bool
+otherKindOrNever i n a = onFile i && (not (suits i n) || isNever a)
+
+-- no granting condition is free or equals the session key
+unfoldable pub notGranted : ℕ → Access → Bool
+notGranted i a = onFile i && isNotGranted a
+
+-- a second part that fails
+unfoldable pub partFails : Keys → Channel → ℕ → List ℕ → Bool
+partFails ks ch i d = eqb i authenticateSecond && (eqb (length d) 32 && fails (keyAt ks (stageKey (ch .stage))) (ch .secret) d)
+
+-- wrong MAC
+unfoldable pub forged : Channel → Bool → ℕ → List ℕ → Bool
+forged ch m i x = m && not (same (macOf x) (sealOf (ch .secret) i (counterOf (ch .stage)) (ch .ti) (plainOf m x)))
+
+-- a base command or GetFileSettings at command counter FFFFh
+unfoldable pub usedUp : Stage → ℕ → Bool
+usedUp g i = isBase i && eqb (counterOf g) 0xFFFF
+
+-- LimitedCredit while off; WriteRecord while a clear is pending
+unfoldable pub switchedOff : ℕ → Bool → Bool → Bool
+switchedOff i limited clears = (eqb i limitedCredit && not limited) || (eqb i writeRecord && clears)
+
+-- amount of 0 or negative; authentication key above 4 or LRP bit set
+abbrev pub noAmount : List ℕ → Bool
+noAmount d = eqb (amountOf d) 0 || leb 0x80000000 (amountOf d)
+
+abbrev pub noKey : List ℕ → Bool
+noKey d = ltb 4 (keyIn d) || eqb (lrpIn d) 1
+
+-- these; write of length 0; commit option not 00h
+unfoldable pub parameterCases : ℕ → List ℕ → List Bool
+parameterCases i d =
+    ((eqb i credit || eqb i debit || eqb i limitedCredit) && noAmount d)
+    ∷ ((eqb i writeData || eqb i writeRecord) && eqb (lengthOf d) 0)
+    ∷ (eqb i commitTransaction && not (eqb (optionOf d) 0))
+    ∷ (eqb i authenticateFirst && noKey d)
+    ∷ []
+
+abbrev pub badParameter : ℕ → List ℕ → Bool
+badParameter i d = any (parameterCases i d)
+
+-- a command with an offset and a length
+unfoldable pub ranged : ℕ → Bool
+ranged i = onData i || eqb i readRecords || eqb i writeRecord
+
+-- and the room that they are held to: the file's bytes, the log's entries, a new entry's bytes
+unfoldable pub roomOf : ℕ → ℕ → ℕ → ℕ
+roomOf i n entries = pick (eqb i readRecords) entries (pick (eqb i writeRecord) entrySize (sizeOf n))
+
+-- the new pending value outside the limits; more than what is left of the allowance
+unfoldable pub amountCases : Limits → Purse → ℕ → ℕ → List Bool
+amountCases l p i a =
+    (eqb i credit && not (within l (p .pending +ℤ pos a)))
+    ∷ (eqb i debit && not (within l (p .pending -ℤ pos a)))
+    ∷ (eqb i limitedCredit && (not (within l (p .pending +ℤ pos a)) || ltb (p .left) a))
+    ∷ []
+
+abbrev pub outsideAmount : Limits → Purse → ℕ → ℕ → Bool
+outsideAmount l p i a = any (amountCases l p i a)
+
+-- outside a file, the log, a limit or the allowance
+unfoldable pub outside : Limits → Purse → ℕ → ℕ → List ℕ → Bool
+outside l p entries i d =
+    pick (ranged i) (outsideOf (roomOf i (fileOf d) entries) (offsetOf d) (lengthOf d)) (outsideAmount l p i (amountOf d))
+
+-- a ReadData in MAC mode of more than 248 bytes, length 0 counted as what it reads
+unfoldable pub longRead : Bool → ℕ → List ℕ → Bool
+longRead m i d = eqb i readData && (m && ltb 248 (endOf (sizeOf (fileOf d)) (offsetOf d) (lengthOf d) - offsetOf d))
+
+-- commit or abort with nothing pending
+unfoldable pub nothingPending : ℕ → Bool → Bool → Bool
+nothingPending i value log = ends i && not (value || log)
+
+-- ---- the table
+
+-- places 1 to 13: the frame f, with the INS i and the data field x, which is d without its MAC where m says that it has one;
+-- access to the file is a
+abbrev pub rowsUnder : Access → Bool → Core → List ℕ → ℕ → List ℕ → List ℕ → List Reason
+rowsUnder a m c f i x d =
+    (0x6700 when wrongSize f)
+    ∷ (0x6E00 when wrongClass f)
+    ∷ (0x6A86 when wrongParameters f)
+    ∷ (0x6700 when wrongFrame f)
+    ∷ (0x911C when unknownCommand (c .channel .stage) i)
+    ∷ (0x91CA when interrupts (c .channel .stage) i)
+    ∷ (0x917E when wrongLength i d || lacksMac m x)
+    ∷ (0x91F0 when unknownFile i (fileOf x))
+    ∷ (0x919D when otherKindOrNever i (fileOf x) a)
+    ∷ (0x91AE when notGranted i a || partFails (c .keys) (c .channel) i d)
+    ∷ (0x911E when forged (c .channel) m i x || usedUp (c .channel .stage) i)
+    ∷ (0x919D when switchedOff i (c .settings .limited) (c .journal .clears))
+    ∷ (0x919E when badParameter i d)
+    ∷ (0x91BE when outside (c .settings .limits) (c .purse) (length (c .journal .entries)) i d || longRead m i d)
+    ∷ (0x910C when nothingPending i (c .purse .moved) (logPending (c .journal)))
+    ∷ []
+
+-- the frame's command carries a MAC
+abbrev pub macedIn : Core → ℕ → List ℕ → Bool
+macedIn c i x = maced (c .settings) (c .channel .stage) i x
+
+unfoldable pub rowsOf : Core → List ℕ → ℕ → List ℕ → List Reason
+rowsOf c f i x = rowsUnder (accessFor (c .settings) (c .channel .stage) i x) (macedIn c i x) c f i x (plainOf (macedIn c i x) x)
+
+-- where none applies; the status of an accepted command's reply is a matter of the command
+abbrev pub ok : ℕ
+ok = 0x9100
+
+-- the first reason that applies names the status
+unfoldable pub statusOf : Core → List ℕ → ℕ
+statusOf c f = first (rowsOf c f (insOf f) (dataOf f)) ok
+
+-- the same from place 5 on
+unfoldable pub commandStatus : Core → ℕ → List ℕ → ℕ
+commandStatus c i x = first (drop 4 (rowsOf c [] i x)) ok
