@@ -7,7 +7,6 @@ use lib.IntN.{ℤ, pos}
 use Rattle.tables.specs.Choice.{pick}
 use Rattle.wire.specs.Bytes.{word}
 use Rattle.datafiles.specs.Files as files
-use Rattle.limits.specs.Limits.{crossed, within}
 use Rattle.purse.specs.Purse as purse
 use Rattle.logbook.specs.Journal as journal
 use Rattle.logbook.specs.View as log
@@ -23,10 +22,11 @@ use Rattle.authentication.specs.Authentication.{begun, firstShown, opened, seco
 use Rattle.columns.specs.Table.{authenticateFirst, authenticateSecond}
 use Rattle.frames.specs.Frame.{insOf, dataOf}
 use Rattle.settings.specs.declared.Settings.{Settings}
-use Rattle.settings.specs.Settings.{alike, rightsBroken}
+use Rattle.settings.specs.Settings.{alike}
 use Rattle.rows.specs.State.{State}
 use Rattle.modes.specs.Modes.{plainOf}
 use Rattle.rows.specs.Rows.{ok, macedIn, statusOf}
+use Rattle.standing.specs.Rules.{orderRefusal}
 use Rattle.effects.specs.Effects.{purseAfter, journalAfter, filesAfter}
 use Rattle.replies.specs.Replies.{shownOf}
 use Rattle.card.specs.declared.Card.{Card}
@@ -162,10 +162,6 @@ issued s ks v = record { settings = s; keys = ks; files = files.zeros; purse = p
 -- all rights FFFFh, every figure and byte zero, both switches off
 unfoldable pub blank : Card
 blank = issued (alike 0xFFFF (record { lower = pos 0; upper = pos 0 }) false) keys.zeros (pos 0)
-
--- a rights nibble is 5 to Dh; lower limit above upper; starting value outside the limits; 0: none of these
-unfoldable pub orderRefusal : Settings → ℤ → ℕ
-orderRefusal s v = pick (rightsBroken s) 1 (pick (crossed (s .limits)) 2 (pick (not (within (s .limits) v)) 3 0))
 
 -- the new card, or the blank one beside the refusal's number
 unfoldable pub personalised : Settings → Keys → ℤ → Outcome

@@ -40,7 +40,8 @@ use Rattle.card.specs.declared.Reply.{Reply}
 use Rattle.card.specs.View.{view, put, broken, onChannel}
 use Rattle.standing.specs.Parts.{logBroken, log-few, parted}
 use Rattle.card.specs.Outcome.{Outcome, replyOf, Answered, bench}
-use Rattle.card.specs.Events.{channelAfter, changed, shown, macBehind, acceptedStatus, ended, refused, acceptedPlain, accepted, played, laidInto, replyRoom, commanded, withSession, sessionChanged, poweredUp, issued, blank, orderRefusal, personalised}
+use Rattle.standing.specs.Rules.{orderRefusal}
+use Rattle.card.specs.Events.{channelAfter, changed, shown, macBehind, acceptedStatus, ended, refused, acceptedPlain, accepted, played, laidInto, replyRoom, commanded, withSession, sessionChanged, poweredUp, issued, blank, personalised}
 use Rattle.card.specs.Accepted.{Granted, baseShown, purse-inside, shown-accepted, shown-small, base-channel, base-accepted, shows-changes-nothing, quiet-shows-nothing}
 use Rattle.card.specs.Sealing.{Sealed, sealed-shows}
 

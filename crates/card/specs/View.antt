@@ -1,17 +1,10 @@
 -- The card as the program holds it, and the state that it stands for. They differ in the log alone.
 use mathlib.Core.Bool.{Bool}
-use Rattle.rows.specs.State.{Core, State}
-use Rattle.settings.specs.declared.Settings.{Settings}
-use Rattle.purse.specs.declared.Purse.{Purse}
-use Rattle.logbook.specs.declared.Log.{Log}
+use Rattle.rows.specs.State.{State, coreOf}
 use Rattle.logbook.specs.View as log
-use Rattle.keys.specs.declared.Keys.{Keys}
 use Rattle.channel.specs.declared.Channel.{Channel}
 use Rattle.standing.specs.Rules.{brokenBy}
 use Rattle.card.specs.declared.Card.{Card}
-
-abbrev pub coreOf : Settings → Keys → Purse → Log → Channel → Core
-coreOf s ks p l c = record { settings = s; keys = ks; purse = p; journal = log.view l; channel = c }
 
 unfoldable pub view : Card → State
 view c = record { core = coreOf (c .settings) (c .keys) (c .purse) (c .log) (c .channel); files = c .files }

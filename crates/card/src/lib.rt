@@ -1,6 +1,5 @@
 // The card: personalisation, and the three events command, session change and power-up.
 mod issue;
-mod order;
 
 use access::Session;
 use channel::Channel;
@@ -50,35 +49,35 @@ impl Card {
 
     pub const SIZE_1F: usize = Files::SIZE_1F;
 
-    pub const OK: u16 = 0x9100;
+    pub const OK: u16 = checks::OK;
 
     pub const SECOND_PART: u16 = 0x91AF;
 
-    pub const WRONG_LENGTH: u16 = 0x6700;
+    pub const WRONG_LENGTH: u16 = checks::WRONG_LENGTH;
 
-    pub const WRONG_CLASS: u16 = 0x6E00;
+    pub const WRONG_CLASS: u16 = checks::WRONG_CLASS;
 
-    pub const WRONG_PARAMETERS: u16 = 0x6A86;
+    pub const WRONG_PARAMETERS: u16 = checks::WRONG_PARAMETERS;
 
-    pub const UNKNOWN_COMMAND: u16 = 0x911C;
+    pub const UNKNOWN_COMMAND: u16 = checks::UNKNOWN_COMMAND;
 
-    pub const ABORTED: u16 = 0x91CA;
+    pub const ABORTED: u16 = checks::ABORTED;
 
-    pub const DATA_LENGTH: u16 = 0x917E;
+    pub const DATA_LENGTH: u16 = checks::DATA_LENGTH;
 
-    pub const NO_SUCH_FILE: u16 = 0x91F0;
+    pub const NO_SUCH_FILE: u16 = checks::NO_SUCH_FILE;
 
-    pub const DENIED: u16 = 0x919D;
+    pub const DENIED: u16 = checks::DENIED;
 
-    pub const NOT_GRANTED: u16 = 0x91AE;
+    pub const NOT_GRANTED: u16 = checks::NOT_GRANTED;
 
-    pub const INTEGRITY: u16 = 0x911E;
+    pub const INTEGRITY: u16 = checks::INTEGRITY;
 
-    pub const BAD_PARAMETER: u16 = 0x919E;
+    pub const BAD_PARAMETER: u16 = checks::BAD_PARAMETER;
 
-    pub const OUTSIDE: u16 = 0x91BE;
+    pub const OUTSIDE: u16 = checks::OUTSIDE;
 
-    pub const NOTHING_PENDING: u16 = 0x910C;
+    pub const NOTHING_PENDING: u16 = checks::NOTHING_PENDING;
 
     // The card with its session ended and pending work dropped.
     fn ended(self) -> Card
@@ -242,7 +241,7 @@ impl Card {
                 len: 0,
             };
         }
-        let checked = order::check(settings, keys, purse, log, channel, frame);
+        let checked = checks::check(settings, keys, purse, log, channel, frame);
         let status = checked.status;
         if status != Card::OK {
             let len = Card::close(status, 0, reply);
@@ -357,7 +356,7 @@ impl Card {
     pub fn personalise(settings: Settings, keys: Keys, value: i32) -> Reply
         ensures { λ r. ⌜ r ≡ replyOf (personalised settings keys value) ⌝ }
     {
-        let refusal = issue::refusal(settings, value);
+        let refusal = standing::refusal(settings, value);
         if refusal != 0 {
             return Reply {
                 card: issue::blank(),

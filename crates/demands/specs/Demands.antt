@@ -21,7 +21,8 @@ use Rattle.card.specs.declared.Card.{Card}
 use Rattle.card.specs.declared.Reply.{Reply}
 use Rattle.card.specs.View.{view, broken}
 use Rattle.card.specs.Outcome.{Answered}
-use Rattle.card.specs.Events.{refused, accepted, laidInto, commanded, issued, orderRefusal}
+use Rattle.standing.specs.Rules.{orderRefusal}
+use Rattle.card.specs.Events.{refused, accepted, laidInto, commanded, issued}
 use Rattle.demands.specs.Books.{booked}
 use Rattle.demands.specs.DataFiles.{filed}
 use Rattle.demands.specs.History.{Event, power, outcome, next, Said, said, run, along, bookLine, fileLine, traced, booksOf}

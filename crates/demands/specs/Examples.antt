@@ -65,8 +65,8 @@ abbrev says : List ℕ → Said
 says bytes = record { refusal = 0; bytes = bytes; len = length bytes }
 
 -- the personalisation is accepted
-pub taken : events.orderRefusal program (pos 100) ≡ 0
-unfolding replies events.orderRefusal
+pub taken : rules.orderRefusal program (pos 100) ≡ 0
+unfolding replies rules.orderRefusal
 taken = refl
 
 -- no model that refuses everything: Credit 900 is taken, 901 is not

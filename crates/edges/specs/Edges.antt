@@ -27,9 +27,9 @@ use Rattle.effects.specs.Effects.{purseAfter, journalAfter, filesAfter}
 use Rattle.replies.specs.Replies.{shownOf}
 use Rattle.card.specs.declared.Card.{Card}
 use Rattle.card.specs.View.{view, put}
-use Rattle.standing.specs.Rules.{unequal, brokenBy}
+use Rattle.standing.specs.Rules.{unequal, brokenBy, orderRefusal}
 use Rattle.card.specs.Outcome.{bench}
-use Rattle.card.specs.Events.{channelAfter, changed, shown, macBehind, acceptedStatus, acceptedPlain, ended, refused, accepted, played, laidInto, commanded, issued, blank, orderRefusal, personalised}
+use Rattle.card.specs.Events.{channelAfter, changed, shown, macBehind, acceptedStatus, acceptedPlain, ended, refused, accepted, played, laidInto, commanded, issued, blank, personalised}
 
 -- frames sent one after the other to a new card, the replies, and the log's entries at the end
 pub record Edge : Type 0 where

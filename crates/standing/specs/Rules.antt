@@ -1,11 +1,12 @@
--- The standing rules, which bench refusal 6 tests.
+-- The standing rules, which bench refusal 6 tests, and bench refusals 1 to 3 of an order.
+use Prim.Native.Nat.{ℕ}
 use mathlib.Core.List.{List, [], _∷_}
 use mathlib.Core.Bool.{Bool, not, _&&_, _||_}
 use lib.Dec.{ltb, eqb}
 use lib.IntN.{ℤ}
 use mir.Syntax.{w32}
 use mir.Val.{ofZ}
-use Rattle.tables.specs.Choice.{any}
+use Rattle.tables.specs.Choice.{pick, any}
 use Rattle.limits.specs.Limits.{crossed, within}
 use Rattle.purse.specs.declared.Purse.{Purse}
 use Rattle.purse.specs.Purse.{largest}
@@ -49,3 +50,9 @@ rules s p l g =
 -- a card of these parts breaks a standing rule
 unfoldable pub brokenBy : Settings → Purse → Log → Stage → Bool
 brokenBy s p l g = any (rules s p l g)
+
+-- ---- personalisation
+
+-- the bench refusal of an order with the starting value v: a rights nibble is 5 to Dh; lower limit above upper; starting value outside the limits; 0: none of these
+unfoldable pub orderRefusal : Settings → ℤ → ℕ
+orderRefusal s v = pick (rightsBroken s) 1 (pick (crossed (s .limits)) 2 (pick (not (within (s .limits) v)) 3 0))

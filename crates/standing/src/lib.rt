@@ -1,11 +1,11 @@
-// The standing rules, which every card keeps.
+// The standing rules, which every card keeps, and the bench refusal of an order that would break one.
 use channel::Stage;
 use limits::Limits;
 use logbook::Log;
 use purse::Purse;
 use settings::Settings;
 ghost use mathlib.Core.Path.{_≡_};
-ghost use Rattle.standing.specs.Rules.{unequal, brokenBy};
+ghost use Rattle.standing.specs.Rules.{unequal, brokenBy, orderRefusal};
 ghost use Rattle.standing.specs.Parts.{valueBroken, logBroken};
 
 // Whether the pending figures differ from the committed ones, or a Debit is noted.
@@ -46,4 +46,24 @@ pub fn breaks(settings: Settings, purse: Purse, log: Log, stage: Stage) -> bool
     let in_log = log_breaks(log);
     let in_value = value_breaks(purse, limits, log.adds | log.clears);
     rights | crossed | !known | in_log | in_value
+}
+
+// The bench refusal of a personalisation, or 0.
+pub fn refusal(settings: Settings, value: i32) -> u8
+    ensures { λ r. ⌜ r ≡ orderRefusal settings value ⌝ }
+{
+    let limits = settings.limits;
+    let rights = settings.has_wrong_rights();
+    let crossed = limits.are_crossed();
+    let held = limits.hold(value);
+    if rights {
+        return 1;
+    }
+    if crossed {
+        return 2;
+    }
+    if !held {
+        return 3;
+    }
+    0
 }

@@ -19,7 +19,8 @@ use Rattle.settings.specs.declared.Settings.{Settings}
 use Rattle.settings.specs.Settings.{rightsBroken}
 use Rattle.card.specs.View.{view}
 use Rattle.standing.specs.Parts.{logBroken, joined}
-use Rattle.card.specs.Events.{issued, orderRefusal}
+use Rattle.standing.specs.Rules.{orderRefusal}
+use Rattle.card.specs.Events.{issued}
 use Rattle.demands.specs.History.{booksOf}
 use Rattle.demands.specs.Demands.{Kept, Taken}
 use Rattle.demands.specs.Laws.Steps.{sound-view}

@@ -2,7 +2,7 @@ use Rattle.card.specs.declared.Card.{Card}
 use Rattle.card.specs.Events.{replyRoom}
 use Rattle.card.specs.Accepted.{Granted}
 use Rattle.card.specs.Laws.{bench-answers, answered-as, command-short, command-broken, command-refused, command-granted, command-accepts, command-part, command-quiet, begins-plain, opens-plain, opens-long, moved, wrote}
-use Rattle.card.specs.Order.{status-told, maced-told}
+use Rattle.checks.specs.Order.{status-told, maced-told}
 use Rattle.card.specs.View.{view, broken}
 use Rattle.channel.specs.declared.Inputs.{Inputs}
 use Rattle.rows.specs.Rows.{ok, macedIn, statusOf}

@@ -1,6 +1,7 @@
 use mathlib.Core.Path.{ap, _∙_}
 use Rattle.card.specs.Laws.{order-refused, order-taken}
-use Rattle.card.specs.Events.{issued, orderRefusal}
+use Rattle.standing.specs.Rules.{orderRefusal}
+use Rattle.card.specs.Events.{issued}
 use mir.Facts.{toZ-ofZ}
 use Rattle.card.proofs.Card.personalise.Statement.{statement}
 use Rattle.card.proofs.Card.personalise.Tie as tie

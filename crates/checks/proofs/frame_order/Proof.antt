@@ -1,7 +1,7 @@
 use Rattle.tables.specs.Choice.{order}
-use Rattle.card.specs.Order.{frameOrder}
-use Rattle.card.proofs.order.frame_order.Statement.{statement}
-use Rattle.card.proofs.order.frame_order.Tie as tie
+use Rattle.checks.specs.Order.{frameOrder}
+use Rattle.checks.proofs.frame_order.Statement.{statement}
+use Rattle.checks.proofs.frame_order.Tie as tie
 
 returns : tie.Need-returns
 unfolding frameOrder

@@ -1,7 +1,7 @@
-use Rattle.card.specs.Order.{frame-refused, frame-passed}
+use Rattle.checks.specs.Order.{frame-refused, frame-passed}
 use denote.Ref.{now}
-use Rattle.card.proofs.order.check.Statement.{statement}
-use Rattle.card.proofs.order.check.Tie as tie
+use Rattle.checks.proofs.check.Statement.{statement}
+use Rattle.checks.proofs.check.Tie as tie
 
 asked-requires : tie.Need-asked-requires
 asked-requires c κs = tt

@@ -1,11 +1,11 @@
 use Rattle.tables.specs.Choice.{hit, skip}
 use mathlib.Core.Path.{refl, sym, ap, _∙_}
-use Rattle.card.specs.Events.{orderRefusal}
+use Rattle.standing.specs.Rules.{orderRefusal}
 use Rattle.limits.specs.Limits.{within}
 use mir.Facts.{toZ-ofZ}
 use mathlib.Core.Bool.{not}
-use Rattle.card.proofs.issue.refusal.Statement.{statement}
-use Rattle.card.proofs.issue.refusal.Tie as tie
+use Rattle.standing.proofs.refusal.Statement.{statement}
+use Rattle.standing.proofs.refusal.Tie as tie
 
 has-wrong-rights-requires : tie.Need-has-wrong-rights-requires
 has-wrong-rights-requires c κs = tt

@@ -15,7 +15,7 @@ use Rattle.commands.specs.declared.Places.{Places}
 use Rattle.rows.specs.State.{Core}
 use Rattle.commands.specs.Places.{placesUnder, placesOf}
 use Rattle.rows.specs.Rows.{macedIn, rowsOf, ok, statusOf, commandStatus}
-use Rattle.card.specs.declared.order.Checked.{Checked}
+use Rattle.checks.specs.declared.Checked.{Checked}
 
 -- places 1 to 4
 abbrev pub framePart : Bool → Bool → Bool → Bool → List Reason

@@ -1,5 +1,4 @@
 // The order of checks: the first reason that applies names the status.
-use super::Card;
 use channel::Channel;
 use commands::Places;
 use frames::Faults;
@@ -8,8 +7,37 @@ use logbook::Log;
 use purse::Purse;
 use settings::Settings;
 ghost use mathlib.Core.Path.{_≡_};
-ghost use Rattle.card.specs.View.{coreOf};
-ghost use Rattle.card.specs.Order.{frameOrder, commandOrder, checkedOf};
+ghost use Rattle.rows.specs.State.{coreOf};
+ghost use Rattle.checks.specs.Order.{frameOrder, commandOrder, checkedOf};
+
+// The status words, each with the place that gives it in the order below.
+pub const OK: u16 = 0x9100;
+
+pub const WRONG_LENGTH: u16 = 0x6700;
+
+pub const WRONG_CLASS: u16 = 0x6E00;
+
+pub const WRONG_PARAMETERS: u16 = 0x6A86;
+
+pub const UNKNOWN_COMMAND: u16 = 0x911C;
+
+pub const ABORTED: u16 = 0x91CA;
+
+pub const DATA_LENGTH: u16 = 0x917E;
+
+pub const NO_SUCH_FILE: u16 = 0x91F0;
+
+pub const DENIED: u16 = 0x919D;
+
+pub const NOT_GRANTED: u16 = 0x91AE;
+
+pub const INTEGRITY: u16 = 0x911E;
+
+pub const BAD_PARAMETER: u16 = 0x919E;
+
+pub const OUTSIDE: u16 = 0x91BE;
+
+pub const NOTHING_PENDING: u16 = 0x910C;
 
 // What the order of checks leaves: the status, and whether the command carries a MAC, for the making of the reply.
 pub struct Checked {
@@ -22,18 +50,18 @@ fn frame_order(size: bool, class: bool, parameters: bool, frame: bool) -> u16
     ensures { λ r. ⌜ r ≡ frameOrder size class parameters frame ⌝ }
 {
     if size {
-        return Card::WRONG_LENGTH;
+        return WRONG_LENGTH;
     }
     if class {
-        return Card::WRONG_CLASS;
+        return WRONG_CLASS;
     }
     if parameters {
-        return Card::WRONG_PARAMETERS;
+        return WRONG_PARAMETERS;
     }
     if frame {
-        return Card::WRONG_LENGTH;
+        return WRONG_LENGTH;
     }
-    Card::OK
+    OK
 }
 
 // Places 5 to 13.
@@ -53,39 +81,39 @@ fn command_order(
     ensures { λ r. ⌜ r ≡ commandOrder command waits length file kind grant seal off value range nothing ⌝ }
 {
     if command {
-        return Card::UNKNOWN_COMMAND;
+        return UNKNOWN_COMMAND;
     }
     if waits {
-        return Card::ABORTED;
+        return ABORTED;
     }
     if length {
-        return Card::DATA_LENGTH;
+        return DATA_LENGTH;
     }
     if file {
-        return Card::NO_SUCH_FILE;
+        return NO_SUCH_FILE;
     }
     if kind {
-        return Card::DENIED;
+        return DENIED;
     }
     if grant {
-        return Card::NOT_GRANTED;
+        return NOT_GRANTED;
     }
     if seal {
-        return Card::INTEGRITY;
+        return INTEGRITY;
     }
     if off {
-        return Card::DENIED;
+        return DENIED;
     }
     if value {
-        return Card::BAD_PARAMETER;
+        return BAD_PARAMETER;
     }
     if range {
-        return Card::OUTSIDE;
+        return OUTSIDE;
     }
     if nothing {
-        return Card::NOTHING_PENDING;
+        return NOTHING_PENDING;
     }
-    Card::OK
+    OK
 }
 
 // A frame through the order of checks.
@@ -101,7 +129,7 @@ pub fn check(
 {
     let f = Faults::asked(frame);
     let s = frame_order(f.size, f.class, f.parameters, f.frame);
-    if s != Card::OK {
+    if s != OK {
         return Checked {
             status: s,
             maced: false,
