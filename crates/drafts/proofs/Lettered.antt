@@ -12,8 +12,9 @@ use Rattle.wire.specs.Bytes.{part, Shows}
 use Rattle.text.specs.Hex.{isHex, spelt, leading}
 use Rattle.text.specs.Laws.{leading-all, leading-most, hex-test}
 use Rattle.lines.specs.Laws.{spelt-there, said-by}
-use Rattle.drafts.specs.declared.Draft.{Draft}
-use Rattle.drafts.specs.Drafts.{over, sent, noted, unread, unchanged, authenticated, maced, letteredBy, lettered, drafted}
+use Rattle.held.specs.declared.Draft.{Draft}
+use Rattle.held.specs.Held.{over, sent, noted}
+use Rattle.drafts.specs.Drafts.{unread, unchanged, authenticated, maced, letteredBy, lettered, drafted}
 
 -- m bytes behind a letter, where the line has 2 m digits behind it
 pub bytes-by : (m : ℕ) (a digits : Bool) (n : ℕ) (b : List ℕ) → (a && eqb n (2 * m) && digits) ≡ true → (digits ≡ true → n ≡ 2 * length b) → length b ≡ m

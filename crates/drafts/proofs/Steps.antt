@@ -17,9 +17,10 @@ use Rattle.till.specs.Till.{firstFrame, secondPart, secondFrame, sealed, sealab
 use Rattle.till.specs.Laws.{length-data, length-sealed, sealable-yes, in-room}
 use Rattle.lines.specs.Lines.{Said}
 use Rattle.lines.specs.Laws.{text-there}
-use Rattle.drafts.specs.declared.Draft.{Draft}
+use Rattle.held.specs.declared.Draft.{Draft}
 use Rattle.drafts.specs.declared.Step.{Step}
-use Rattle.drafts.specs.Drafts.{counted, opened, authenticated, unread, maced, Writes}
+use Rattle.held.specs.Held.{counted, opened}
+use Rattle.drafts.specs.Drafts.{authenticated, unread, maced, Writes}
 
 pub writes-as : {o p : Said Draft} (b after : List ℕ) (r : Step) → o ≡ p → Writes o b after r → Writes p b after r
 writes-as b after r e w = subst (λ (x : Said Draft). Writes x b after r) e w

@@ -1,7 +1,7 @@
 // The lines that begin with a letter.
-use super::Draft;
 use super::Step;
 use super::parts;
+use held::Draft;
 ghost use mathlib.Core.Path.{_≡_};
 ghost use mathlib.Core.Bool.{true};
 ghost use Prim.Native.Nat.{_*_, _≤_, _<_};
@@ -32,7 +32,7 @@ fn put_spelt(
         return parts::put_same(parts::noted(draft, b), line, text);
     }
     if (letter == b'S') | (letter == b'P') {
-        return parts::put_same(parts::over(draft), line, text);
+        return parts::put_same(held::over(draft), line, text);
     }
     parts::put_same(draft, line, text)
 }

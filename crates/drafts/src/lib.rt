@@ -2,23 +2,13 @@
 mod letters;
 mod parts;
 
+use held::Draft;
 ghost use mathlib.Core.Path.{_≡_};
 ghost use mathlib.Core.List.{[]};
 ghost use Prim.Native.Nat.{_≤_, _<_};
 ghost use lib.ListN.{length};
 ghost use Rattle.lines.specs.Lines.{linesAfter, went, Goes};
-ghost use Rattle.drafts.specs.Drafts.{begun, drafted, Writes};
-
-// What the terminal holds between two lines: the card's random number and transaction identifier that the last N line
-// handed in, and the session, if one is held, by its MAC key, transaction identifier and command counter.
-pub struct Draft {
-    pub random: [u8; 16],
-    pub identifier: [u8; 4],
-    pub held: bool,
-    pub key: [u8; 16],
-    pub ti: [u8; 4],
-    pub counter: u16,
-}
+ghost use Rattle.drafts.specs.Drafts.{drafted, Writes};
 
 // What is held after a line, and the number of characters that it writes.
 struct Step {
@@ -33,22 +23,6 @@ pub struct Went {
     pub written: usize,
 }
 
-impl Draft {
-    // At the start.
-    pub fn begin() -> Draft
-        ensures { λ r. ⌜ r ≡ begun ⌝ }
-    {
-        Draft {
-            random: [0; 16],
-            identifier: [0; 4],
-            held: false,
-            key: [0; 16],
-            ti: [0; 4],
-            counter: 0,
-        }
-    }
-}
-
 // What a line writes, over the front of text.
 fn write_line(draft: Draft, line: &[u8], text: &mut [u8]) -> Step
     requires { ⌜ 1024 ≤ length (now text) ⌝ }
@@ -59,12 +33,12 @@ fn write_line(draft: Draft, line: &[u8], text: &mut [u8]) -> Step
         return parts::put_unread(draft, text);
     }
     if n == 0 {
-        return parts::put_same(parts::over(draft), line, text);
+        return parts::put_same(held::over(draft), line, text);
     }
     let mut bytes = [0u8; 512];
     let size = text::spell(line, &mut bytes);
     if 2 * size == n {
-        return parts::put_same(parts::sent(draft, &bytes[0..size]), line, text);
+        return parts::put_same(held::sent(draft, &bytes[0..size]), line, text);
     }
     letters::put_lettered(draft, line, text)
 }

@@ -1,48 +1,14 @@
-// What a line does to what is held, and the characters that it writes.
-use super::Draft;
+// What a line writes, by its kind.
 use super::Step;
+use held::Draft;
 ghost use mathlib.Core.Path.{_≡_};
 ghost use mathlib.Core.List.{_∷_, _++_};
 ghost use Prim.Native.Nat.{_+_, _≤_};
 ghost use lib.ListN.{length};
 ghost use Rattle.wire.specs.Bytes.{part, Shows};
 ghost use Rattle.text.specs.Hex.{inDigits};
-ghost use Rattle.drafts.specs.Drafts.{over, raised, counted, sent, noted, opened, unchanged, unread, authenticated, maced, Writes};
-
-pub(crate) fn over(mut draft: Draft) -> Draft
-    ensures { λ r. ⌜ r ≡ over draft ⌝ }
-{
-    draft.held = false;
-    draft
-}
-
-fn raised(c: u16) -> u16
-    ensures { λ r. ⌜ r ≡ raised c ⌝ }
-{
-    if c < 0xFFFF {
-        return c + 1;
-    }
-    c
-}
-
-fn counted(mut draft: Draft) -> Draft
-    ensures { λ r. ⌜ r ≡ counted draft ⌝ }
-{
-    let c = raised(draft.counter);
-    draft.counter = c;
-    draft
-}
-
-// After a plain frame.
-pub(crate) fn sent(draft: Draft, frame: &[u8]) -> Draft
-    ensures { λ r. ⌜ r ≡ sent draft (now (frame .entry)) ⌝ }
-{
-    let ins = wire::byte_at(frame, 1);
-    if (ins == 0x71) | (ins == 0xAF) {
-        return over(draft);
-    }
-    counted(draft)
-}
+ghost use Rattle.held.specs.Held.{noted};
+ghost use Rattle.drafts.specs.Drafts.{unchanged, unread, authenticated, maced, Writes};
 
 // Sixteen bytes from place at on.
 fn sixteen(b: &[u8], at: usize) -> [u8; 16]
@@ -64,19 +30,6 @@ pub(crate) fn noted(mut draft: Draft, b: &[u8]) -> Draft
     wire::lay(&mut identifier, 0, &b[16..20]);
     draft.random = random;
     draft.identifier = identifier;
-    draft
-}
-
-fn opened(mut draft: Draft, k: [u8; 16], a: [u8; 16]) -> Draft
-    ensures { λ r. ⌜ r ≡ opened draft k a ⌝ }
-{
-    let b = draft.random;
-    let key = handshake::mac_key(k, a, b);
-    let ti = draft.identifier;
-    draft.held = true;
-    draft.key = key;
-    draft.ti = ti;
-    draft.counter = 0;
     draft
 }
 
@@ -124,7 +77,7 @@ pub(crate) fn put_authenticated(draft: Draft, b: &[u8], text: &mut [u8]) -> Step
     let second = till::second_frame(till::second_part(k, a, random));
     let len = put_two(first, second, text);
     Step {
-        draft: opened(draft, k, a),
+        draft: held::opened(draft, k, a),
         len,
     }
 }
@@ -146,7 +99,7 @@ pub(crate) fn put_maced(draft: Draft, frame: &[u8], text: &mut [u8]) -> Step
     }
     let len = text::put_digits(&bytes[0..n], text);
     Step {
-        draft: counted(draft),
+        draft: held::counted(draft),
         len,
     }
 }

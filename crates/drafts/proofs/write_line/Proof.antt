@@ -1,7 +1,8 @@
 use Rattle.drafts.proofs.Steps.{writes-as}
 use Rattle.drafts.proofs.Lettered.{digits-by, by-long, by-none, by-digits, by-letter}
-use Rattle.drafts.specs.Drafts.{sent, unchanged}
-use Rattle.drafts.specs.declared.Draft.{Draft}
+use Rattle.held.specs.Held.{sent}
+use Rattle.drafts.specs.Drafts.{unchanged}
+use Rattle.held.specs.declared.Draft.{Draft}
 use Rattle.text.specs.Hex.{isHex, spelt}
 use Rattle.wire.specs.Bytes.{part}
 use borrow.Author.Tests.{eq-eqb, ne-eqb}

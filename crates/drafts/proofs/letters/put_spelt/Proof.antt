@@ -1,7 +1,7 @@
 use Rattle.drafts.proofs.Steps.{writes-as}
 use Rattle.drafts.proofs.Lettered.{bytes-by, by-m, by-a, by-n, by-over, by-other}
 use Rattle.drafts.specs.Drafts.{unchanged}
-use Rattle.drafts.specs.declared.Draft.{Draft}
+use Rattle.held.specs.declared.Draft.{Draft}
 use lib.Dec.{eqb}
 use mathlib.Core.Path.{ap, _∙_}
 use denote.Ref.{now}

@@ -1,4 +1,4 @@
-use Rattle.drafts.specs.Drafts.{noted}
+use Rattle.held.specs.Held.{noted}
 use Rattle.lines.specs.Laws.{part-laid}
 use native.Mathlib.Omega.{arith}
 use denote.Ref.{now}

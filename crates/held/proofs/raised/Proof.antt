@@ -1,8 +1,8 @@
-use Rattle.drafts.specs.Drafts.{raised}
+use Rattle.held.specs.Held.{raised}
 use Rattle.tables.specs.Choice.{choice}
 use borrow.Author.Needs.{needs}
-use Rattle.drafts.proofs.parts.raised.Statement.{statement}
-use Rattle.drafts.proofs.parts.raised.Tie as tie
+use Rattle.held.proofs.raised.Statement.{statement}
+use Rattle.held.proofs.raised.Tie as tie
 
 add-result : tie.Need-add-result
 add-result c = search needs

@@ -1,12 +1,12 @@
 use Prim.Native.Nat.{ℕ}
 use mathlib.Core.Bool.{_||_}
 use lib.Dec.{eqb}
-use Rattle.drafts.specs.Drafts.{sent}
+use Rattle.held.specs.Held.{sent}
 use mathlib.Core.Path.{sym, ap, _∙_}
 use Rattle.tables.specs.Choice.{picked, passed}
 use borrow.Author.Needs.{needs}
-use Rattle.drafts.proofs.parts.sent.Statement.{statement}
-use Rattle.drafts.proofs.parts.sent.Tie as tie
+use Rattle.held.proofs.sent.Statement.{statement}
+use Rattle.held.proofs.sent.Tie as tie
 
 byte-at-requires : tie.Need-byte-at-requires
 byte-at-requires c κs = search needs

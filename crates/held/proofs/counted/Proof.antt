@@ -1,7 +1,7 @@
-use Rattle.drafts.specs.Drafts.{counted}
+use Rattle.held.specs.Held.{counted}
 use borrow.Author.Needs.{needs}
-use Rattle.drafts.proofs.parts.counted.Statement.{statement}
-use Rattle.drafts.proofs.parts.counted.Tie as tie
+use Rattle.held.proofs.counted.Statement.{statement}
+use Rattle.held.proofs.counted.Tie as tie
 
 raised-requires : tie.Need-raised-requires
 raised-requires c κs = search needs

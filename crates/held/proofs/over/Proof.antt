@@ -1,7 +1,7 @@
-use Rattle.drafts.specs.Drafts.{over}
+use Rattle.held.specs.Held.{over}
 use mathlib.Core.Path.{refl}
-use Rattle.drafts.proofs.parts.over.Statement.{statement}
-use Rattle.drafts.proofs.parts.over.Tie as tie
+use Rattle.held.proofs.over.Statement.{statement}
+use Rattle.held.proofs.over.Tie as tie
 
 returns : tie.Need-returns
 unfolding over

@@ -1,7 +1,7 @@
-use Rattle.drafts.specs.Drafts.{begun}
+use Rattle.held.specs.Held.{begun}
 use mathlib.Core.Path.{refl}
-use Rattle.drafts.proofs.Draft.begin.Statement.{statement}
-use Rattle.drafts.proofs.Draft.begin.Tie as tie
+use Rattle.held.proofs.Draft.begin.Statement.{statement}
+use Rattle.held.proofs.Draft.begin.Tie as tie
 
 returns : tie.Need-returns
 unfolding begun

@@ -1,7 +1,7 @@
-use Rattle.drafts.specs.Drafts.{opened}
+use Rattle.held.specs.Held.{opened}
 use borrow.Author.Needs.{needs}
-use Rattle.drafts.proofs.parts.opened.Statement.{statement}
-use Rattle.drafts.proofs.parts.opened.Tie as tie
+use Rattle.held.proofs.opened.Statement.{statement}
+use Rattle.held.proofs.opened.Tie as tie
 
 mac-key-requires : tie.Need-mac-key-requires
 mac-key-requires c κs = search needs
