@@ -265,7 +265,13 @@ impl Card {
             return self.shown(maced, inputs, ins, d, reply);
         }
         let next = channel.counted();
-        let len = Card::seal(next, maced, 0, reply);
+        // A copy of the channel for its MAC is made where there is one.
+        let mut len = 0;
+        if maced {
+            len = Card::seal(next, maced, 0, reply);
+        } else {
+            len = Card::close(Card::OK, 0, reply);
+        }
         let files = self.files;
         if ins == table::WRITE_DATA {
             let card = Card {

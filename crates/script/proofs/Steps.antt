@@ -2,9 +2,9 @@
 use Prim.Native.Nat.{ℕ, _+_, _-_, _*_, _≤_, _<_}
 use mathlib.Core.List.{List, [], _∷_, _++_}
 use mathlib.Core.Path.{_≡_, refl, sym, ap, subst, _∙_}
-use borrow.Author.Tests.{ltb-false}
-use lib.Dec.{ltb}
-use lib.ListN.{length, take, drop, length-take}
+use borrow.Author.Tests.{ltb-false, le-leb}
+use lib.Dec.{ltb, eqb}
+use lib.ListN.{length, take, drop, length-append, length-take}
 use lib.Seq.{take-append-le}
 use native.Mathlib.Nat.{sub-zero}
 use native.Mathlib.Omega.{arith}
@@ -13,12 +13,14 @@ use Rattle.wire.specs.Bytes.{part}
 use Rattle.wire.specs.Laws.{length-part}
 use Rattle.text.specs.Shown.{inRoom, Adds}
 use Rattle.text.specs.Adds.{front-laid, front-fits}
+use Rattle.text.specs.Hex.{inDigits}
+use Rattle.text.specs.Laws.{length-digits}
 use Rattle.lines.specs.Lines.{lineLength, linesAfter, Said, went, Goes}
 use Rattle.lines.specs.Frames.{frameIn}
 use Rattle.lines.specs.Laws.{Ends, line-ends}
 use Rattle.lines.specs.FrameLaws.{Frame, frame-line, no-frame}
 use Rattle.lines.specs.Sofar.{Sofar, sofar-full, sofar-next, sofar-as}
-use Rattle.answers.specs.Answers.{replyText, replyLine}
+use Rattle.answers.specs.Answers.{numbered, replyText, replyLine}
 use Rattle.card.specs.declared.Reply.{Reply}
 use Rattle.card.specs.Outcome.{Outcome, replyOf, Answered}
 use Rattle.desk.specs.declared.Desk.{Desk}
@@ -71,6 +73,22 @@ module _ (k : Desk) (l : List ℕ) (o : Outcome) (r : Reply) (after : List ℕ) 
   desk : withCard k (r .card) ≡ lineSaid k l .next
   unfolding replied replyOf
   desk = ap (λ (x : Reply). withCard k (x .card)) (p .0) ∙ sym (ap (λ (x : Said Desk). x .next) e)
+
+-- ---- a desk and the card of a run
+
+pub own-card : (k : Desk) → withCard k (k .card) ≡ k
+unfolding withCard
+own-card k = refl
+
+-- where there is room for every answer, one is written
+pub written : (out x : List ℕ) (n m r : ℕ) (bytes : List ℕ) → Adds (inRoom (length out - n) (replyLine r bytes)) out n x m
+    → length bytes ≤ 512 → 1025 ≤ length out - n → m ≡ n → ⊥
+unfolding inRoom replyLine replyText numbered
+written out x n m r bytes a h room e =
+    let t : length (replyText r bytes) ≤ 1024 = pick-cases (λ (l : List ℕ). length l ≤ 1024) (eqb r 0) (inDigits bytes) (numbered r) (λ z. omega (arith, length-digits bytes)) (λ z. omega arith) in
+    let l = length-append (replyText r bytes) (0x0A ∷ []) in
+    let p : inRoom (length out - n) (replyLine r bytes) ≡ replyLine r bytes = picked _ _ (le-leb (length (replyLine r bytes)) (length out - n) (omega arith)) in
+    omega (arith, a .1, ap length p)
 
 -- a list read at the front of another is no longer
 pub front-holds : (x l : List ℕ) (n : ℕ) → n ≡ length x → part l 0 n ≡ x → n ≤ length l

@@ -1,4 +1,5 @@
 // Scripts: lines of text that play a card, each answered by a line.
+use card::Reply;
 use desk::Desk;
 use letters::Told;
 ghost use mathlib.Core.Path.{_≡_};
@@ -39,7 +40,12 @@ fn put_told(told: Told, at: usize, out: &mut [u8]) -> usize
     notices::put(notice, card.purse, card.log, stage, at, out)
 }
 
-// Plays the whole lines of a text, as far as their answers fit out.
+// Room for every answer to a command: two digits a byte of the largest reply buffer, and LF.
+const MOST_ANSWER: usize = 2 * letters::MOST_ROOM + 1;
+
+// Plays the whole lines of a text, as far as their answers fit out. The card of the run is the last reply's: a card is long, and
+// its way from a reply back to the desk would be one more copy of it in each turn. A desk that a command may have to leave as it
+// was, for want of room, gets its card before.
 pub fn run(mut desk: Desk, text: &[u8], out: &mut [u8]) -> Went
     ensures { λ r. ⌜ Goes (went lineSaid desk (linesAfter [] (now (text .entry))) (length (now (out .entry)))) (now (out .entry)) (now (out .exit)) (r .desk) (r .read) (r .written) ⌝ }
 {
@@ -47,13 +53,22 @@ pub fn run(mut desk: Desk, text: &[u8], out: &mut [u8]) -> Went
     let mut reply = [0u8; 512];
     let mut at = 0;
     let mut n = 0;
+    let first = desk.card;
+    let mut played = Reply {
+        card: first,
+        refusal: 0,
+        len: 0,
+    };
     while at < text.len() {
         let size = lines::spell_frame(text, at, &mut frame);
         if 0 < size {
             let lent = lent_room(desk.room);
-            let card = desk.card;
             let inputs = desk.inputs;
-            let played = card.command(&frame[0..size], inputs, &mut reply[0..lent]);
+            let card = played.card;
+            if out.len() - n < MOST_ANSWER {
+                desk.card = card;
+            }
+            played = card.command(&frame[0..size], inputs, &mut reply[0..lent]);
             let len = played.len;
             let put = answers::put_line(played.refusal, &reply[0..len], n, out);
             if put == n {
@@ -63,12 +78,12 @@ pub fn run(mut desk: Desk, text: &[u8], out: &mut [u8]) -> Went
                     written: n,
                 };
             }
-            let next = played.card;
-            desk.card = next;
             n = put;
             at = at + 2 * size + 1;
             continue;
         }
+        let card = played.card;
+        desk.card = card;
         let e = lines::line_end(text, at);
         if e == text.len() {
             return Went {
@@ -87,9 +102,17 @@ pub fn run(mut desk: Desk, text: &[u8], out: &mut [u8]) -> Went
             };
         }
         desk = told.desk;
+        let next = desk.card;
+        played = Reply {
+            card: next,
+            refusal: 0,
+            len: 0,
+        };
         n = put;
         at = e + 1;
     }
+    let card = played.card;
+    desk.card = card;
     Went {
         desk,
         read: at,

@@ -1,8 +1,9 @@
 use Rattle.script.specs.Lines.{commandedOn, lineSaid}
-use Rattle.script.proofs.Steps.{Plays, front-holds, lent-most, plays-lent, reply-bytes, line, played-full, played-next, ends, told-full, told-next}
-use Rattle.lines.specs.Sofar.{Sofar, sofar-start, sofar-length, sofar-end, sofar-part}
+use Rattle.script.proofs.Steps.{Plays, front-holds, lent-most, plays-lent, reply-bytes, own-card, written, line, played-full, played-next, ends, told-full, told-next}
+use Rattle.lines.specs.Sofar.{Sofar, sofar-start, sofar-length, sofar-end, sofar-part, sofar-as}
 use Rattle.letters.specs.Letters.{withCard}
 use Rattle.card.specs.Events.{commanded}
+use Rattle.desk.specs.declared.Desk.{Desk}
 use Rattle.wire.specs.Bytes.{part}
 use borrow.Author.Needs.{needs}
 use denote.Ref.{now}
@@ -11,17 +12,23 @@ use lib.Seq.{length-front}
 use native.Mathlib.Omega.{arith}
 use Prim.Native.Nat.{ℕ, _+_, _-_, _*_, _≤_, _<_}
 use mathlib.Core.List.{List, _++_}
+use mathlib.Core.Logic.{⊎-elim}
 use mathlib.Core.Path.{_≡_, _∙_}
 use Rattle.script.proofs.run.Statement.{statement}
 use Rattle.script.proofs.run.Tie as tie
 
+-- the desk of the run has the card of the last reply
 abbrev Inv-loop : tie.InvT-loop
-Inv-loop desk₀ text out₀ frame₀ reply₀ at₀ n₀ desk out frame reply at n = (length reply ≡ 512) × Sofar lineSaid desk₀ text out₀ desk at n out
+Inv-loop desk₀ text out₀ frame₀ reply₀ at₀ n₀ played₀ desk out frame reply at n played = (length reply ≡ 512) × Sofar lineSaid desk₀ text out₀ (withCard desk (played .card)) at n out
 
 abbrev μ-loop : tie.MeasureT-loop
-μ-loop desk₀ text out₀ frame₀ reply₀ at₀ n₀ desk out frame reply at n = length text - at
+μ-loop desk₀ text out₀ frame₀ reply₀ at₀ n₀ played₀ desk out frame reply at n played = length text - at
 
 -- ---- what the places of a turn know
+
+module _ (k : tie.At-loop Inv-loop μ-loop) where
+  abbrev here : Desk
+  here = withCard (k .loop .desk) (k .loop .played .card)
 
 -- the frame at its place is spelt
 module _ (k : tie.After-spell-frame Inv-loop μ-loop) where
@@ -29,7 +36,7 @@ module _ (k : tie.After-spell-frame Inv-loop μ-loop) where
   turn = k .before .before .before
 
   abbrev text : List ℕ
-  text = now (turn .before .before .before .args .text)
+  text = now (turn .before .before .before .before .args .text)
 
 -- there is one
 inside : (k : tie.Then1 Inv-loop μ-loop) → let v = turn (k .before) .loop in let size = k .before .spell-frame .result in
@@ -39,39 +46,45 @@ inside k = let l = line _ _ _ _ _ _ _ (turn (k .before) .loop .inv .1) _ (k .bef
 -- and the card has replied to it, into the front of its buffer
 module _ (k : tie.After-command Inv-loop μ-loop) where
   abbrev spelt : tie.After-spell-frame Inv-loop μ-loop
-  spelt = k .before .before .before .before .before .before .before .before
+  spelt = k .before .before .before .before .before .before .before .before .before
 
   abbrev at-loop : tie.At-loop Inv-loop μ-loop
   at-loop = turn spelt
 
   abbrev buffer : List ℕ
-  buffer = k .command .last .1 .1 .1 .0 ++ drop (k .before .before .before .before .before .before .lent-room .result - 0) (at-loop .loop .reply)
+  buffer = k .command .last .1 .1 .1 .0 ++ drop (k .before .before .before .before .before .before .before .lent-room .result - 0) (at-loop .loop .reply)
 
   buffer-length : length buffer ≡ 512
-  buffer-length = length-front (at-loop .loop .reply) (k .command .last .1 .1 .1 .0) (k .before .before .before .before .before .before .lent-room .result - 0) (k .command .kept .1 .1 .1 .0) ∙ at-loop .loop .inv .0
+  buffer-length = length-front (at-loop .loop .reply) (k .command .last .1 .1 .1 .0) (k .before .before .before .before .before .before .before .lent-room .result - 0) (k .command .kept .1 .1 .1 .0) ∙ at-loop .loop .inv .0
 
-  plays : Plays (commandedOn (at-loop .loop .desk) (part (spelt .spell-frame .last .1 .1 .0) 0 (spelt .spell-frame .result))) buffer (k .command .result)
+  plays : Plays (commandedOn (here at-loop) (part (spelt .spell-frame .last .1 .1 .0) 0 (spelt .spell-frame .result))) buffer (k .command .result)
+  unfolding withCard
   plays =
-      plays-lent (commanded (at-loop .loop .desk .card) _ (at-loop .loop .desk .inputs)) (at-loop .loop .reply) _ (at-loop .loop .desk .room) _ _ (k .before .before .before .before .before .before .lent-room .ensures) (omega (arith, at-loop .loop .inv .0)) (k .command .kept .1 .1 .1 .0) (k .command .ensures)
+      plays-lent (commanded (at-loop .loop .played .card) _ (at-loop .loop .desk .inputs)) (at-loop .loop .reply) _ (at-loop .loop .desk .room) _ _ (k .before .before .before .before .before .before .before .lent-room .ensures) (omega (arith, at-loop .loop .inv .0)) (k .command .kept .1 .1 .1 .0) (k .command .ensures)
 
 -- there is none: the line goes up to the next LF
 module _ (k : tie.After-line-end Inv-loop μ-loop) where
   abbrev start : tie.At-loop Inv-loop μ-loop
-  start = turn (k .before .before)
+  start = turn (k .before .before .before)
 
-  end : (start .loop .at ≤ k .line-end .result) × (k .line-end .result ≤ length (text (k .before .before)))
-  end = let l = ends _ _ _ _ _ _ _ (start .loop .inv .1) _ (k .before .before .spell-frame .ensures .0) (k .before .if1 .left) _ (k .line-end .ensures) in (l .1, l .2)
+  end : (start .loop .at ≤ k .line-end .result) × (k .line-end .result ≤ length (text (k .before .before .before)))
+  end = let l = ends _ _ _ _ _ _ _ (start .loop .inv .1) _ (k .before .before .before .spell-frame .ensures .0) (k .before .before .if1 .left) _ (k .line-end .ensures) in (l .1, l .2)
 
 -- ---- the needs
 
 loop-holds : tie.Need-loop-holds Inv-loop μ-loop
-loop-holds c = (search needs, sofar-start lineSaid _ _ _)
+loop-holds c = (search needs, sofar-as lineSaid _ _ _ _ _ _ _ _ (own-card _) (sofar-start lineSaid _ _ _))
 
 spell-frame-requires : tie.Need-spell-frame-requires Inv-loop μ-loop
 spell-frame-requires c κs = tt
 
 lent-room-requires : tie.Need-lent-room-requires Inv-loop μ-loop
 lent-room-requires c κs = tt
+
+sub-if2 : tie.Need-sub-if2 Inv-loop μ-loop
+sub-if2 c =
+    let s = c .before .before .before .before .before .before .before .loop .inv .1 in
+    omega (arith, s .room, sofar-length lineSaid _ _ _ _ _ _ _ s)
 
 sub-command : tie.Need-sub-command Inv-loop μ-loop
 sub-command c = omega arith
@@ -80,7 +93,7 @@ part-command-start : tie.Need-part-command-start Inv-loop μ-loop
 part-command-start c = omega arith
 
 part-command-end : tie.Need-part-command-end Inv-loop μ-loop
-part-command-end c = let k = c .before .before .before .before in omega (arith, inside k .0, front-holds _ _ _ (k .before .spell-frame .ensures .0) (k .before .spell-frame .ensures .1))
+part-command-end c = let k = c .before .before .before .before .before in omega (arith, inside k .0, front-holds _ _ _ (k .before .spell-frame .ensures .0) (k .before .spell-frame .ensures .1))
 
 sub-command-2 : tie.Need-sub-command-2 Inv-loop μ-loop
 sub-command-2 c = omega arith
@@ -90,8 +103,8 @@ part-reply-start c = omega arith
 
 part-reply-end : tie.Need-part-reply-end Inv-loop μ-loop
 part-reply-end c =
-    let v = c .before .before .before .before .before .before .before .before .before .loop in
-    omega (arith, lent-most (v .desk .room), c .before .before .before .before .lent-room .ensures, v .inv .0)
+    let v = c .before .before .before .before .before .before .before .before .before .before .loop in
+    omega (arith, lent-most (v .desk .room), c .before .before .before .before .before .lent-room .ensures, v .inv .0)
 
 command-requires : tie.Need-command-requires Inv-loop μ-loop
 command-requires c κs = tt
@@ -109,23 +122,29 @@ put-line-requires : tie.Need-put-line-requires Inv-loop μ-loop
 put-line-requires c κs = tt
 
 same-length : tie.Need-same-length Inv-loop μ-loop
-same-length c = c .before .before .before .put-line .kept .1 .1 .1 .0 ∙ sofar-length lineSaid _ _ _ _ _ _ _ (c .before .before .before .before .before .before .before .before .before .before .before .before .before .before .before .before .before .before .before .loop .inv .1)
+same-length c = c .before .before .before .put-line .kept .1 .1 .1 .0 ∙ sofar-length lineSaid _ _ _ _ _ _ _ (c .before .before .before .before .before .before .before .before .before .before .before .before .before .before .before .before .before .before .before .before .loop .inv .1)
 
+-- for want of room the desk has had its card before; else there was room
 returns : tie.Need-returns Inv-loop μ-loop
+unfolding withCard
 returns c =
     let m = c .before .before .before .before .before .before .before .before in
     let v = at-loop m .loop in
-    let a = at-loop m .before .before .before .args in
-    played-full (a .desk) (now (a .text)) (now (a .out)) (v .desk) (v .at) (v .n) (v .out) (v .inv .1) _ (spelt m .spell-frame .ensures .0) (m .before .before .before .before .before .before .before .if1 .taken) _ (spelt m .spell-frame .ensures .1) (buffer m) _ (plays m) _ _ (c .before .before .before .put-line .ensures) (c .if2 .taken)
+    let a = at-loop m .before .before .before .before .args in
+    let bytes = reply-bytes _ _ _ (plays m) in
+    ⊎-elim
+    (λ w. rw (w .1) (played-full (a .desk) (now (a .text)) (now (a .out)) (here (at-loop m)) (v .at) (v .n) (v .out) (v .inv .1) _ (spelt m .spell-frame .ensures .0) (m .before .before .before .before .before .before .before .before .if1 .taken) _ (spelt m .spell-frame .ensures .1) (buffer m) _ (plays m) _ _ (c .before .before .before .put-line .ensures) (c .if3 .taken)))
+    (λ w. absurd (written (v .out) _ (v .n) _ _ _ (c .before .before .before .put-line .ensures) (omega (arith, bytes .1)) (w .0 .left) (c .if3 .taken)))
+    (m .before .before .before .before .if2 .came)
 
 mul-at : tie.Need-mul-at Inv-loop μ-loop
 mul-at c = omega (arith, inside (c .before .before .before .before .before .before .before .before .before .before .before .before .before .before .before .before) .0)
 
 add-at : tie.Need-add-at Inv-loop μ-loop
-add-at c = record { fits = omega (arith, inside (c .before .before .before .before .before .before .before .before .before .before .before .before .before .before .before .before) .1, c .before .before .before .before .before .before .before .before .before .before .before .before .before .before .before .before .before .before .before .before .before .before .before .good) }
+add-at c = record { fits = omega (arith, inside (c .before .before .before .before .before .before .before .before .before .before .before .before .before .before .before .before) .1, c .before .before .before .before .before .before .before .before .before .before .before .before .before .before .before .before .before .before .before .before .before .before .before .before .good) }
 
 add-at-2 : tie.Need-add-at-2 Inv-loop μ-loop
-add-at-2 c = record { fits = omega (arith, inside (c .before .before .before .before .before .before .before .before .before .before .before .before .before .before .before .before) .1, c .before .before .before .before .before .before .before .before .before .before .before .before .before .before .before .before .before .before .before .before .before .before .before .good) }
+add-at-2 c = record { fits = omega (arith, inside (c .before .before .before .before .before .before .before .before .before .before .before .before .before .before .before .before) .1, c .before .before .before .before .before .before .before .before .before .before .before .before .before .before .before .before .before .before .before .before .before .before .before .before .good) }
 
 loop-less : tie.Need-loop-less Inv-loop μ-loop
 loop-less c = omega (arith, inside (c .before .before .before .before .before .before .before .before .before .before .before .before .before .before .before .before) .1)
@@ -133,22 +152,24 @@ loop-less c = omega (arith, inside (c .before .before .before .before .before .b
 loop-again : tie.Need-loop-again Inv-loop μ-loop
 unfolding withCard
 loop-again c =
-    let m = c .before .before .before .before .before .before .before .before .before in
+    let m = c .before .before .before .before .before .before .before .before in
     let v = at-loop m .loop in
-    let a = at-loop m .before .before .before .args in
-    (buffer-length m, played-next (a .desk) (now (a .text)) (now (a .out)) (v .desk) (v .at) (v .n) (v .out) (v .inv .1) _ (spelt m .spell-frame .ensures .0) (m .before .before .before .before .before .before .before .if1 .taken) _ (spelt m .spell-frame .ensures .1) (buffer m) _ (plays m) _ _ (c .before .before .before .before .put-line .ensures) (c .before .if2 .left))
+    let a = at-loop m .before .before .before .before .args in
+    let next = played-next (a .desk) (now (a .text)) (now (a .out)) (here (at-loop m)) (v .at) (v .n) (v .out) (v .inv .1) _ (spelt m .spell-frame .ensures .0) (m .before .before .before .before .before .before .before .before .if1 .taken) _ (spelt m .spell-frame .ensures .1) (buffer m) _ (plays m) _ _ (c .before .before .before .put-line .ensures) (c .if3 .left) in
+    (buffer-length m, ⊎-elim (λ w. rw (w .1) next) (λ w. rw (w .1) next) (m .before .before .before .before .if2 .came))
 
 line-end-requires : tie.Need-line-end-requires Inv-loop μ-loop
 line-end-requires c κs = tt
 
 same-length-2 : tie.Need-same-length-2 Inv-loop μ-loop
-same-length-2 c = sofar-length lineSaid _ _ _ _ _ _ _ (c .before .before .before .before .before .before .loop .inv .1)
+same-length-2 c = sofar-length lineSaid _ _ _ _ _ _ _ (c .before .before .before .before .before .before .before .loop .inv .1)
 
 returns-2 : tie.Need-returns-2 Inv-loop μ-loop
+unfolding withCard
 returns-2 c =
     let k = c .before in
-    let l = ends _ _ _ _ _ _ _ (start k .loop .inv .1) _ (k .before .before .spell-frame .ensures .0) (k .before .if1 .left) _ (k .line-end .ensures) in
-    sofar-part lineSaid _ _ _ _ _ _ _ (start k .loop .inv .1) _ (l .0) (c .if3 .taken)
+    let l = ends _ _ _ _ _ _ _ (start k .loop .inv .1) _ (k .before .before .before .spell-frame .ensures .0) (k .before .before .if1 .left) _ (k .line-end .ensures) in
+    sofar-part lineSaid _ _ _ _ _ _ _ (start k .loop .inv .1) _ (l .0) (c .if4 .taken)
 
 sub-say : tie.Need-sub-say Inv-loop μ-loop
 sub-say c = omega (arith, end (c .before) .0, end (c .before) .1)
@@ -166,33 +187,36 @@ put-told-requires : tie.Need-put-told-requires Inv-loop μ-loop
 put-told-requires c κs = tt
 
 same-length-3 : tie.Need-same-length-3 Inv-loop μ-loop
-same-length-3 c = c .before .before .before .put-told .kept .1 .1 .0 ∙ sofar-length lineSaid _ _ _ _ _ _ _ (c .before .before .before .before .before .before .before .before .before .before .before .before .before .loop .inv .1)
+same-length-3 c = c .before .before .before .put-told .kept .1 .1 .0 ∙ sofar-length lineSaid _ _ _ _ _ _ _ (c .before .before .before .before .before .before .before .before .before .before .before .before .before .before .loop .inv .1)
 
 returns-3 : tie.Need-returns-3 Inv-loop μ-loop
+unfolding withCard
 returns-3 c =
     let k = c .before .before .before .before .before .before .before .before in
     let v = start k .loop in
-    let a = start k .before .before .before .args in
-    told-full (a .desk) (now (a .text)) (now (a .out)) (v .desk) (v .at) (v .n) (v .out) (v .inv .1) _ (k .before .before .spell-frame .ensures .0) (k .before .if1 .left) _ (k .line-end .ensures) (omega (arith, end k .1, c .before .before .before .before .before .before .before .if3 .left)) _ (c .before .before .before .before .before .say .ensures) _ _ (c .before .before .before .put-told .ensures) (c .if4 .taken)
+    let a = start k .before .before .before .before .args in
+    told-full (a .desk) (now (a .text)) (now (a .out)) (here (start k)) (v .at) (v .n) (v .out) (v .inv .1) _ (k .before .before .before .spell-frame .ensures .0) (k .before .before .if1 .left) _ (k .line-end .ensures) (omega (arith, end k .1, c .before .before .before .before .before .before .before .if4 .left)) _ (c .before .before .before .before .before .say .ensures) _ _ (c .before .before .before .put-told .ensures) (c .if5 .taken)
 
 add-at-3 : tie.Need-add-at-3 Inv-loop μ-loop
-add-at-3 c = record { fits = omega (arith, end (c .before .before .before .before .before .before .before .before .before) .1, c .before .before .before .before .before .before .before .before .if3 .left, c .before .before .before .before .before .before .before .before .before .before .before .before .before .before .before .before .before .good) }
+add-at-3 c = record { fits = omega (arith, end (c .before .before .before .before .before .before .before .before .before .before) .1, c .before .before .before .before .before .before .before .before .before .if4 .left, c .before .before .before .before .before .before .before .before .before .before .before .before .before .before .before .before .before .before .before .before .good) }
 
 loop-less-2 : tie.Need-loop-less-2 Inv-loop μ-loop
-loop-less-2 c = omega (arith, end (c .before .before .before .before .before .before .before .before .before) .0, end (c .before .before .before .before .before .before .before .before .before) .1, c .before .before .before .before .before .before .before .before .if3 .left)
+loop-less-2 c = omega (arith, end (c .before .before .before .before .before .before .before .before .before .before) .0, end (c .before .before .before .before .before .before .before .before .before .before) .1, c .before .before .before .before .before .before .before .before .before .if4 .left)
 
 loop-again-2 : tie.Need-loop-again-2 Inv-loop μ-loop
+unfolding withCard
 loop-again-2 c =
-    let k = c .before .before .before .before .before .before .before .before .before in
+    let k = c .before .before .before .before .before .before .before .before .before .before in
     let v = start k .loop in
-    let a = start k .before .before .before .args in
-    (v .inv .0, told-next (a .desk) (now (a .text)) (now (a .out)) (v .desk) (v .at) (v .n) (v .out) (v .inv .1) _ (k .before .before .spell-frame .ensures .0) (k .before .if1 .left) _ (k .line-end .ensures) (omega (arith, end k .1, c .before .before .before .before .before .before .before .before .if3 .left)) _ (c .before .before .before .before .before .before .say .ensures) _ _ (c .before .before .before .before .put-told .ensures) (c .before .if4 .left))
+    let a = start k .before .before .before .before .args in
+    (v .inv .0, told-next (a .desk) (now (a .text)) (now (a .out)) (here (start k)) (v .at) (v .n) (v .out) (v .inv .1) _ (k .before .before .before .spell-frame .ensures .0) (k .before .before .if1 .left) _ (k .line-end .ensures) (omega (arith, end k .1, c .before .before .before .before .before .before .before .before .before .if4 .left)) _ (c .before .before .before .before .before .before .before .say .ensures) _ _ (c .before .before .before .before .before .put-told .ensures) (c .before .before .if5 .left))
 
 same-length-4 : tie.Need-same-length-4 Inv-loop μ-loop
-same-length-4 c = sofar-length lineSaid _ _ _ _ _ _ _ (c .before .loop .inv .1)
+same-length-4 c = sofar-length lineSaid _ _ _ _ _ _ _ (c .before .before .loop .inv .1)
 
 returns-4 : tie.Need-returns-4 Inv-loop μ-loop
-returns-4 c = sofar-end lineSaid _ _ _ _ _ _ _ (c .before .loop .inv .1) (c .loop-test .left)
+unfolding withCard
+returns-4 c = sofar-end lineSaid _ _ _ _ _ _ _ (c .before .before .loop .inv .1) (c .before .loop-test .left)
 
 pub run-spec : {M : Type 1} → statement M
 run-spec =
@@ -203,6 +227,7 @@ run-spec =
     loop-holds
     spell-frame-requires
     lent-room-requires
+    sub-if2
     sub-command
     part-command-start
     part-command-end

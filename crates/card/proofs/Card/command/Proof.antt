@@ -2,6 +2,7 @@ use Rattle.card.specs.declared.Card.{Card}
 use Rattle.card.specs.Events.{replyRoom}
 use Rattle.card.specs.Accepted.{Granted}
 use Rattle.card.specs.Laws.{bench-answers, answered-as, command-short, command-broken, command-refused, command-granted, command-accepts, command-part, command-quiet, begins-plain, opens-plain, opens-long, moved, wrote}
+use Rattle.card.specs.Sealing.{Sealed, sealed-plain}
 use Rattle.checks.specs.Order.{status-told, maced-told}
 use Rattle.card.specs.View.{view, broken}
 use Rattle.channel.specs.declared.Inputs.{Inputs}
@@ -14,7 +15,8 @@ use lib.ListN.{length}
 use Prim.Native.Nat.{ℕ, _+_, _≤_}
 use mathlib.Core.Bool.{false}
 use mathlib.Core.List.{List}
-use mathlib.Core.Path.{_≡_, refl, sym, _∙_}
+use mathlib.Core.Logic.{⊎-elim}
+use mathlib.Core.Path.{_≡_, sym, ap, _∙_}
 use native.Mathlib.Omega.{arith}
 use borrow.Author.Needs.{needs}
 use Rattle.card.proofs.Card.command.Statement.{statement}
@@ -50,6 +52,21 @@ module _ (p : tie.After-plain) where
 
   granted : Granted (view card .core) (p .before .before .before .before .check .result .maced) (p .before .before .byte-at .result) (now (p .plain .result))
   granted = command-granted card frame inputs buffer room sound taken maced (p .before .before .byte-at .ensures) (p .before .«data» .ensures) (p .plain .ensures)
+
+-- what is laid behind no data
+module _ (j : tie.Joined7) where
+  abbrev plainly : tie.After-plain
+  plainly = j .before .before .before .before .before .before
+
+  sealed : Sealed (j .before .counted .result) (plainly .before .before .before .before .check .result .maced) 0 (buffer plainly) (j .if7 .reply) (j .if7 .len)
+  sealed =
+      ⊎-elim
+      (λ w. (w .5 ∙ w .2 .ensures .0, w .6 ∙ w .2 .ensures .1))
+      (λ w. sealed-plain _ 0 (buffer plainly) (room plainly) (w .0 .left) (omega arith) (w .5 ∙ w .2 .ensures .0) (w .6 ∙ w .2 .ensures .1))
+      (j .if7 .came)
+
+  as-long : length (j .if7 .reply) ≡ length (buffer plainly)
+  as-long = ⊎-elim (λ w. ap length (w .5) ∙ w .2 .kept .1 .1 .1 .0) (λ w. ap length (w .5) ∙ w .2 .kept .1 .1 .0) (j .if7 .came)
 
 returns : tie.Need-returns
 returns c =
@@ -142,22 +159,23 @@ counted-requires : tie.Need-counted-requires
 counted-requires c κs = tt
 
 seal-requires : tie.Need-seal-requires
-seal-requires c κs =
-    let p = c .before .before .before .before .before .before in
-    (pick-both (λ n. 0 + n ≤ 256) _ 8 0 (omega arith) (omega arith), room p)
+seal-requires c κs = (pick-both (λ n. 0 + n ≤ 256) _ 8 0 (omega arith) (omega arith), room (c .before .before .before .before .before .before .before))
+
+close-requires-2 : tie.Need-close-requires-2
+close-requires-2 c κs = omega arith
 
 next-files-requires : tie.Need-next-files-requires
 next-files-requires c κs = tt
 
 same-length-5 : tie.Need-same-length-5
-same-length-5 c = search needs
+same-length-5 c = as-long (c .before .before .before)
 
 returns-7 : tie.Need-returns-7
 returns-7 c =
-    let q = c .before .before .before .before .before .before .before .before in
-    let p = c .before .before .before .before .before .before .before .before .before .before .before .before in
-    let w = wrote (card p) (inputs p) _ (now (p .plain .result)) _ (c .before .if7 .taken) (c .next-files .ensures) (c .before .before .before .before .before .before .before .counted .ensures) in
-    command-quiet (card p) (frame p) (inputs p) (buffer p) (room p) (sound p) (taken p) (maced p) (p .before .before .byte-at .ensures) (p .before .«data» .ensures) (p .plain .ensures) (ne-eqb _ _ (q .before .before .before .if4 .left)) (ne-eqb _ _ (q .before .before .if5 .left)) (sym (q .before .shows .ensures) ∙ q .if6 .left) w (c .before .before .before .before .before .before .before .counted .ensures) (c .before .before .before .before .before .seal .ensures)
+    let q = c .before .before .before .before .before in
+    let p = c .before .before .before .before .before .before .before .before .before in
+    let w = wrote (card p) (inputs p) _ (now (p .plain .result)) _ (c .before .if8 .taken) (c .next-files .ensures) (c .before .before .before .before .counted .ensures) in
+    command-quiet (card p) (frame p) (inputs p) (buffer p) (room p) (sound p) (taken p) (maced p) (p .before .before .byte-at .ensures) (p .before .«data» .ensures) (p .plain .ensures) (ne-eqb _ _ (q .before .before .before .if4 .left)) (ne-eqb _ _ (q .before .before .if5 .left)) (sym (q .before .shows .ensures) ∙ q .if6 .left) w (c .before .before .before .before .counted .ensures) (sealed (c .before .before .before))
 
 next-purse-requires : tie.Need-next-purse-requires
 next-purse-requires c κs = tt
@@ -166,16 +184,16 @@ next-log-requires : tie.Need-next-log-requires
 next-log-requires c κs = tt
 
 same-length-6 : tie.Need-same-length-6
-same-length-6 c = search needs
+same-length-6 c = as-long (c .before .before .before .before)
 
 returns-8 : tie.Need-returns-8
 returns-8 c =
-    let q = c .before .before .before .before .before .before .before .before .before in
-    let p = c .before .before .before .before .before .before .before .before .before .before .before .before .before in
+    let q = c .before .before .before .before .before .before in
+    let p = c .before .before .before .before .before .before .before .before .before .before in
     let n₁ = ne-eqb _ _ (q .before .before .before .if4 .left) in
     let n₂ = ne-eqb _ _ (q .before .before .if5 .left) in
-    let w = moved (card p) (inputs p) _ _ _ _ (granted p .0) n₁ n₂ (ne-eqb _ _ (c .before .before .if7 .left)) (c .before .next-purse .ensures) (c .next-log .ensures) (c .before .before .before .before .before .before .before .before .counted .ensures) in
-    command-quiet (card p) (frame p) (inputs p) (buffer p) (room p) (sound p) (taken p) (maced p) (p .before .before .byte-at .ensures) (p .before .«data» .ensures) (p .plain .ensures) n₁ n₂ (sym (q .before .shows .ensures) ∙ q .if6 .left) w (c .before .before .before .before .before .before .before .before .counted .ensures) (c .before .before .before .before .before .before .seal .ensures)
+    let w = moved (card p) (inputs p) _ _ _ _ (granted p .0) n₁ n₂ (ne-eqb _ _ (c .before .before .if8 .left)) (c .before .next-purse .ensures) (c .next-log .ensures) (c .before .before .before .before .before .counted .ensures) in
+    command-quiet (card p) (frame p) (inputs p) (buffer p) (room p) (sound p) (taken p) (maced p) (p .before .before .byte-at .ensures) (p .before .«data» .ensures) (p .plain .ensures) n₁ n₂ (sym (q .before .shows .ensures) ∙ q .if6 .left) w (c .before .before .before .before .before .counted .ensures) (sealed (c .before .before .before .before))
 
 pub command-spec : {M : Type 1} → statement M
 command-spec =
@@ -204,6 +222,7 @@ command-spec =
     returns-6
     counted-requires
     seal-requires
+    close-requires-2
     next-files-requires
     same-length-5
     returns-7
