@@ -64,9 +64,9 @@ impl Stage {
     {
         match self {
             Stage::Closed => 0,
-            Stage::Bench(k) => k,
-            Stage::Waiting(k) => k,
-            Stage::Real(k, _) => k,
+            Stage::Bench(key) => key,
+            Stage::Waiting(key) => key,
+            Stage::Real(key, _) => key,
         }
     }
 
