@@ -9,7 +9,8 @@ use Rattle.channel.specs.declared.Inputs.{Inputs}
 use Rattle.channel.specs.declared.Stage.the-variants.{Waiting, Real}
 use Rattle.channel.specs.Channel.{stageKey}
 use Rattle.frames.specs.Frame.{keyIn}
-use Rattle.handshake.specs.Handshake.{capsOf, macKey, firstReply, broughtA, secondReply}
+use Rattle.derivation.specs.Derivation.{macKey}
+use Rattle.handshake.specs.Handshake.{capsOf, firstReply, broughtA, secondReply}
 
 -- the first part ends the old session; the card's random number is RndB
 unfoldable pub begun : Inputs → List ℕ → Channel

@@ -13,7 +13,7 @@ use Rattle.channel.specs.declared.Inputs.{Inputs}
 use Rattle.channel.specs.declared.Stage.the-variants.{Bench, Real}
 use Rattle.channel.specs.Channel.{isWaiting, counterOf, bare}
 use Rattle.sealing.specs.Sealing.{sealOf}
-use Rattle.handshake.specs.Handshake.{macKey}
+use Rattle.derivation.specs.Derivation.{macKey}
 use Rattle.frames.specs.Frame.{insOf, dataOf, lrpIn}
 use Rattle.modes.specs.Modes.{plainOf, macOf}
 use Rattle.rows.specs.Rows.{longRead, macedIn, ok, statusOf}

@@ -30,7 +30,7 @@ fn authentication() {
     let first = till::first_frame(0);
     let part = till::second_part(k, a, b);
     let second = till::second_frame(part);
-    let key = handshake::mac_key(k, a, b);
+    let key = derivation::mac_key(k, a, b);
     show(&first);
     show(&second);
     show(&key);

@@ -6,7 +6,8 @@ use lib.ListN.{length, replicate}
 use native.Mathlib.Omega.{arith}
 use Rattle.wire.specs.Bytes.{laid, laidIn}
 use Rattle.wire.specs.Laws.{laid-room, laid-all}
-use Rattle.handshake.specs.Handshake.{broughtA, macKey, secondReply}
+use Rattle.derivation.specs.Derivation.{macKey}
+use Rattle.handshake.specs.Handshake.{broughtA, secondReply}
 
 -- a data field of another length counts as cut or filled with zero bytes, or as zero bytes where it is longer
 unfoldable pub pairOf : List ℕ → List ℕ

@@ -1,33 +1,16 @@
--- AuthenticateEV2First: what each side computes of the key K, RndA, RndB, TI and PCDcap2. E and D are CBC without padding.
+-- AuthenticateEV2First: what each side sends, of the key K, RndA, RndB, TI and PCDcap2. E and D are CBC without padding.
 use Prim.Native.Nat.{ℕ}
-use mathlib.Core.Bool.{Bool, not, _&&_}
+use mathlib.Core.Bool.{Bool, not}
 use mathlib.Core.List.{List, [], _∷_, _++_}
-use lib.Bits.{bitXor}
-use lib.Dec.{eqb}
-use lib.ListN.{length, take, drop, replicate}
-use Rattle.wire.specs.Bytes.{part, same}
+use lib.ListN.{take, drop, replicate}
+use Rattle.wire.specs.Bytes.{same}
 use Rattle.wire.specs.Listed.{filled}
 use Rattle.cbc.specs.Cbc.{encrypted, decrypted}
-use Rattle.cmac.specs.Cmac.{cmac}
 
 -- rotated left by one byte
 unfoldable pub rotated : List ℕ → List ℕ
 rotated [] = []
 rotated (a ∷ x) = x ++ a ∷ []
-
--- the bytes of two lists, exclusive or one by one
-abbrev pub xored : List ℕ → List ℕ → List ℕ
-xored [] y = []
-xored (a ∷ x) [] = []
-xored (a ∷ x) (b ∷ y) = bitXor a b ∷ xored x y
-
--- what the session MAC key is made of: RndA and RndB behind six fixed bytes
-unfoldable pub sessionVector : List ℕ → List ℕ → List ℕ
-sessionVector a b = 0x5A ∷ 0xA5 ∷ 0x00 ∷ 0x01 ∷ 0x00 ∷ 0x80 ∷ take 2 a ++ xored (part a 2 8) (take 6 b) ++ drop 6 b ++ drop 8 a
-
--- the session MAC key of K, RndA and RndB
-unfoldable pub macKey : List ℕ → List ℕ → List ℕ → List ℕ
-macKey k a b = cmac k (sessionVector a b)
 
 -- the first part's PCDcap2, cut or filled with zero bytes to six
 unfoldable pub capsOf : List ℕ → List ℕ

@@ -2,9 +2,8 @@
 ghost use mathlib.Core.Path.{_≡_};
 ghost use mathlib.Core.Bool.{_&&_};
 ghost use lib.Dec.{eqb};
-ghost use lib.ListN.{length, take, drop};
-ghost use Rattle.wire.specs.Bytes.{part};
-ghost use Rattle.handshake.specs.Handshake.{rotated, xored, sessionVector, macKey, capsOf, firstReply, fails};
+ghost use lib.ListN.{length};
+ghost use Rattle.handshake.specs.Handshake.{rotated, capsOf, firstReply, fails};
 ghost use Rattle.handshake.specs.Guarded.{pairOf, broughtIn, keyIn, replyIn};
 
 // The two blocks of a second part d.
@@ -33,33 +32,6 @@ fn rotate(x: [u8; 16]) -> [u8; 16]
     wire::lay(&mut r, 0, &x[1..16]);
     r[15] = x[0];
     r
-}
-
-// Bytes 2 to 7 of a and 0 to 5 of b, exclusive or.
-fn mixed(a: [u8; 16], b: [u8; 16]) -> [u8; 6]
-    ensures { λ r. ⌜ r ≡ xored (part a 2 8) (take 6 b) ⌝ }
-{
-    [
-        a[2] ^ b[0],
-        a[3] ^ b[1],
-        a[4] ^ b[2],
-        a[5] ^ b[3],
-        a[6] ^ b[4],
-        a[7] ^ b[5],
-    ]
-}
-
-fn session_vector(a: [u8; 16], b: [u8; 16]) -> [u8; 32]
-    ensures { λ r. ⌜ r ≡ sessionVector a b ⌝ }
-{
-    let six = mixed(a, b);
-    let mut v = [0u8; 32];
-    wire::lay(&mut v, 0, &[0x5A, 0xA5, 0x00, 0x01, 0x00, 0x80]);
-    wire::lay(&mut v, 6, &a[0..2]);
-    wire::lay(&mut v, 8, &six);
-    wire::lay(&mut v, 14, &b[6..16]);
-    wire::lay(&mut v, 24, &a[8..16]);
-    v
 }
 
 // PCDcap2 of a first part, cut or filled to six bytes.
@@ -95,19 +67,11 @@ pub fn is_failed(k: [u8; 16], b: [u8; 16], d: &[u8]) -> bool
     !wire::is_same(&x[16..32], &turned)
 }
 
-// The session MAC key of K, RndA and RndB.
-pub fn mac_key(k: [u8; 16], a: [u8; 16], b: [u8; 16]) -> [u8; 16]
-    ensures { λ r. ⌜ r ≡ macKey k a b ⌝ }
-{
-    let v = session_vector(a, b);
-    cmac::tag(k, &v, &k[0..0])
-}
-
 // The session MAC key behind a second part d.
 pub fn session_key(k: [u8; 16], b: [u8; 16], d: &[u8]) -> [u8; 16]
     ensures { λ r. ⌜ r ≡ keyIn k b (now (d .entry)) ⌝ }
 {
-    mac_key(k, brought_a(k, d), b)
+    derivation::mac_key(k, brought_a(k, d), b)
 }
 
 // The reply to a second part d.

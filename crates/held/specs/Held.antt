@@ -8,7 +8,7 @@ use lib.ListN.{replicate}
 use Rattle.tables.specs.Choice.{pick}
 use Rattle.wire.specs.Bytes.{part}
 use Rattle.frames.specs.Frame.{insOf}
-use Rattle.handshake.specs.Handshake.{macKey}
+use Rattle.derivation.specs.Derivation.{macKey}
 use Rattle.held.specs.declared.Draft.{Draft}
 
 -- at the start: zeros, and no session

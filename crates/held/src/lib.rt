@@ -71,7 +71,7 @@ pub fn opened(mut draft: Draft, k: [u8; 16], a: [u8; 16]) -> Draft
     ensures { λ r. ⌜ r ≡ opened draft k a ⌝ }
 {
     let b = draft.random;
-    let key = handshake::mac_key(k, a, b);
+    let key = derivation::mac_key(k, a, b);
     let ti = draft.identifier;
     draft.held = true;
     draft.key = key;

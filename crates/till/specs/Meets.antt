@@ -14,7 +14,8 @@ use Rattle.frames.specs.Frame.{insOf, dataOf}
 use Rattle.cbc.specs.Cbc.{encrypted, decrypted}
 use Rattle.cbc.specs.Laws.{encrypted-sized, undone}
 use Rattle.sealing.specs.Sealing.{sealOf}
-use Rattle.handshake.specs.Handshake.{rotated, macKey, firstReply, broughtA, fails, secondReply}
+use Rattle.derivation.specs.Derivation.{macKey}
+use Rattle.handshake.specs.Handshake.{rotated, firstReply, broughtA, fails, secondReply}
 use Rattle.handshake.specs.Guarded.{keyIn, key-whole}
 use Rattle.till.specs.Till.{learntB, secondPart, repliedTi, repliedA, knowsUs, sealed}
 use Rattle.till.specs.Laws.{length-seal, length-sealed}

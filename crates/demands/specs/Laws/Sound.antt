@@ -29,7 +29,8 @@ use Rattle.channel.specs.declared.Channel.{Channel}
 use Rattle.channel.specs.declared.Inputs.{Inputs}
 use Rattle.channel.specs.Channel.{stageOf, stageSound, stageKey, countedUp, counted, bare}
 use Rattle.cmac.specs.Laws.{length-cmac}
-use Rattle.handshake.specs.Handshake.{capsOf, macKey}
+use Rattle.derivation.specs.Derivation.{macKey}
+use Rattle.handshake.specs.Handshake.{capsOf}
 use Rattle.authentication.specs.Authentication.{begun, opened}
 use Rattle.access.specs.Rights.{sessionSound}
 use Rattle.columns.specs.Table.{writeRecord, authenticateFirst}

@@ -20,7 +20,8 @@ use Rattle.channel.specs.declared.Inputs.{Inputs}
 use Rattle.channel.specs.declared.Stage.the-variants.{Real}
 use Rattle.channel.specs.Channel.{isWaiting, stageKey}
 use Rattle.cbc.specs.Laws.{length-encrypted}
-use Rattle.handshake.specs.Handshake.{rotated, capsOf, macKey, firstReply, broughtA, fails, secondReply}
+use Rattle.derivation.specs.Derivation.{macKey}
+use Rattle.handshake.specs.Handshake.{rotated, capsOf, firstReply, broughtA, fails, secondReply}
 use Rattle.authentication.specs.Authentication.{begun, firstShown, opened, secondShown}
 use Rattle.frames.specs.Frame.{insOf, dataOf, lrpIn, wrongSize, wrongClass, wrongParameters, wrongFrame}
 use Rattle.columns.specs.Table.{authenticateFirst, authenticateSecond, onFile, namesFile}

@@ -1,5 +1,5 @@
 use Rattle.handshake.specs.Guarded.{keyIn}
-use Rattle.handshake.specs.Handshake.{macKey}
+use Rattle.derivation.specs.Derivation.{macKey}
 use mathlib.Core.Path.{ap, _∙_}
 use mathlib.Core.List.{List}
 use Prim.Native.Nat.{ℕ}

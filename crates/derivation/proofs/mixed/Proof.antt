@@ -1,9 +1,9 @@
-use Rattle.handshake.proofs.Laying.{mixes}
+use Rattle.derivation.proofs.Laying.{mixes}
 use lib.ListN.{length}
 use mathlib.Core.Path.{_≡_}
 use borrow.Author.Needs.{needs}
-use Rattle.handshake.proofs.mixed.Statement.{statement}
-use Rattle.handshake.proofs.mixed.Tie as tie
+use Rattle.derivation.proofs.mixed.Statement.{statement}
+use Rattle.derivation.proofs.mixed.Tie as tie
 
 array-read-t7 : tie.Need-array-read-t7
 array-read-t7 c = search needs

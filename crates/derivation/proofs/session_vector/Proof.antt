@@ -1,9 +1,9 @@
-use Rattle.handshake.proofs.Laying.{vector-by}
+use Rattle.derivation.proofs.Laying.{vector-by}
 use lib.ListN.{length}
 use mathlib.Core.Path.{_≡_}
 use borrow.Author.Needs.{needs}
-use Rattle.handshake.proofs.session_vector.Statement.{statement}
-use Rattle.handshake.proofs.session_vector.Tie as tie
+use Rattle.derivation.proofs.session_vector.Statement.{statement}
+use Rattle.derivation.proofs.session_vector.Tie as tie
 
 mixed-requires : tie.Need-mixed-requires
 mixed-requires c κs = search needs

@@ -1,10 +1,10 @@
-use Rattle.handshake.specs.Handshake.{macKey}
+use Rattle.derivation.specs.Derivation.{macKey}
 use Rattle.cmac.specs.Cmac.{cmac}
 use mathlib.Core.Path.{ap, _∙_}
 use mathlib.Core.List.{append-nil}
 use borrow.Author.Needs.{needs}
-use Rattle.handshake.proofs.mac_key.Statement.{statement}
-use Rattle.handshake.proofs.mac_key.Tie as tie
+use Rattle.derivation.proofs.mac_key.Statement.{statement}
+use Rattle.derivation.proofs.mac_key.Tie as tie
 
 session-vector-requires : tie.Need-session-vector-requires
 session-vector-requires c κs = search needs
