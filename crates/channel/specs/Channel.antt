@@ -1,7 +1,7 @@
 -- How far a session has come, and the bytes that terminal and card then know.
 use Prim.Native.Nat.{ℕ, _+_, _%_}
 use mathlib.Core.Bool.{Bool, true, false}
-use lib.Dec.{leb, eqb}
+use lib.Dec.{leb}
 use lib.ListN.{replicate}
 use Rattle.access.specs.declared.Session.{Session}
 use Rattle.access.specs.declared.Session.the-variants.{Nobody, Key}

@@ -7,7 +7,7 @@ use borrow.Author.Tests.{eq-eqb, ne-eqb}
 use lib.Dec.{eqb}
 use lib.ListN.{drop}
 use Rattle.tables.specs.Choice.{pick, hit, skip, picked}
-use Rattle.tables.specs.Reasons.{Reason, _when_, first, NoReason, no-reason, none-first, first-half, first-refuses, first-passes}
+use Rattle.tables.specs.Reasons.{Reason, _when_, first, no-reason, none-first, first-half, first-refuses, first-passes}
 use Rattle.frames.specs.declared.Faults.{Faults}
 use Rattle.frames.specs.Faults.{faultsOf}
 use Rattle.frames.specs.Frame.{insOf, dataOf, wrongSize, wrongClass, wrongParameters, wrongFrame}

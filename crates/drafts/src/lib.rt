@@ -3,7 +3,6 @@ mod letters;
 mod parts;
 
 use held::Draft;
-ghost use mathlib.Core.Path.{_≡_};
 ghost use mathlib.Core.List.{[]};
 ghost use Prim.Native.Nat.{_≤_, _<_};
 ghost use lib.ListN.{length};

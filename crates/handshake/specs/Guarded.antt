@@ -1,10 +1,10 @@
 -- What the functions of a second part answer to any data field: the same as Handshake where it has 32 bytes.
 use Prim.Native.Nat.{ℕ}
 use mathlib.Core.List.{List}
-use mathlib.Core.Path.{_≡_, refl, sym, ap, _∙_}
+use mathlib.Core.Path.{_≡_, ap, _∙_}
 use lib.ListN.{length, replicate}
 use native.Mathlib.Omega.{arith}
-use Rattle.wire.specs.Bytes.{laid, laidIn}
+use Rattle.wire.specs.Bytes.{laidIn}
 use Rattle.wire.specs.Laws.{laid-room, laid-all}
 use Rattle.derivation.specs.Derivation.{macKey}
 use Rattle.handshake.specs.Handshake.{broughtA, secondReply}

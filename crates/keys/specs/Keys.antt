@@ -1,9 +1,8 @@
 -- The card's five keys, of sixteen bytes each.
 use Prim.Native.Nat.{ℕ}
 use mathlib.Core.List.{List}
-use mathlib.Core.Path.{_≡_}
 use lib.Dec.{eqb}
-use lib.ListN.{length, replicate}
+use lib.ListN.{replicate}
 use Rattle.tables.specs.Choice.{pick}
 use Rattle.keys.specs.declared.Keys.{Keys}
 

@@ -1,33 +1,26 @@
 -- Sixteen bytes of an order one by one, and what an order that ends behind the switches names.
-use Prim.Native.Nat.{ℕ, zero, suc, _+_, _≤_, _<_}
+use Prim.Native.Nat.{ℕ, _+_, _≤_, _<_}
 use mathlib.Core.Bool.{false, and-false}
-use mathlib.Core.List.{List, [], _∷_, _++_}
+use mathlib.Core.List.{List}
 use mathlib.Core.Path.{_≡_, refl, _∙_}
-use lib.ListN.{length, getD, drop, replicate, length-append, length-replicate, drop-of-length-le, List·getD-eq-default}
-use lib.Seq.{getD-drop, getD-take, length-take-le}
+use lib.ListN.{length, getD, drop, replicate, drop-of-length-le, List·getD-eq-default}
+use lib.Seq.{getD-drop}
 use native.Mathlib.Omega.{arith}
+use Rattle.wire.specs.Listed.{filled, length-filled, filled-byte}
 use Rattle.keys.specs.Keys.{zeros}
 use Rattle.settings.specs.Settings.{macFile}
 use Rattle.orders.specs.Order.{sixteen, keysIn, settingsIn, orderIn}
 
 pub length-sixteen : (b : List ℕ) (at : ℕ) → length (sixteen b at) ≡ 16
 unfolding sixteen
-length-sixteen b at = length-take-le 16 (drop at b ++ replicate 16 0) (simp (length-append, length-replicate) (omega arith))
-
--- zeros behind a list are what is read past its end
-padded : (l : List ℕ) (n i : ℕ) → getD (l ++ replicate n 0) i 0 ≡ getD l i 0
-padded [] zero i = refl
-padded [] (suc n) zero = refl
-padded [] (suc n) (suc i) = padded [] n i
-padded (x ∷ l) n zero = refl
-padded (x ∷ l) n (suc i) = padded l n i
+length-sixteen b at = length-filled 16 (drop at b)
 
 pub sixteen-byte : (b : List ℕ) (at i : ℕ) → i < 16 → getD (sixteen b at) i 0 ≡ getD b (at + i) 0
 unfolding sixteen
-sixteen-byte b at i h = getD-take 16 (drop at b ++ replicate 16 0) i 0 h ∙ padded (drop at b) 16 i ∙ getD-drop at b i 0
+sixteen-byte b at i h = filled-byte 16 (drop at b) i h ∙ getD-drop at b i 0
 
 sixteen-none : (b : List ℕ) (at : ℕ) → length b ≤ at → sixteen b at ≡ replicate 16 0
-unfolding sixteen
+unfolding sixteen filled
 sixteen-none b at h = rw (drop-of-length-le b {i = at} h) refl
 
 -- an order of at most 23 bytes names zero keys, and no file in MAC mode

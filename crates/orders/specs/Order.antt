@@ -1,13 +1,14 @@
 -- A personalisation order in bytes: rights of 00h, 04h, 1Fh, 03h, 01h, lower limit, upper limit, starting value, switches,
 -- keys 0 to 4, modes. Bytes past the end count as 0: an order that ends behind the switches has zero keys and plain modes (Laws).
 use Prim.Native.Nat.{ℕ, _+_, _*_, _%_, _/_}
-use mathlib.Core.List.{List, _++_}
+use mathlib.Core.List.{List}
 use lib.Dec.{eqb}
 use lib.IntN.{ℤ}
-use lib.ListN.{getD, take, drop, replicate}
+use lib.ListN.{getD, drop}
 use mir.Syntax.{w32}
 use mir.Val.{toZ}
 use Rattle.wire.specs.Bytes.{le4}
+use Rattle.wire.specs.Listed.{filled}
 use Rattle.keys.specs.declared.Keys.{Keys}
 use Rattle.limits.specs.declared.Limits.{Limits}
 use Rattle.settings.specs.declared.Settings.{Settings}
@@ -25,7 +26,7 @@ limitsIn b = record { lower = signed b 10; upper = signed b 14 }
 
 -- sixteen bytes from place at on; what lies past the end counts as 0
 unfoldable pub sixteen : List ℕ → ℕ → List ℕ
-sixteen b at = take 16 (drop at b ++ replicate 16 0)
+sixteen b at = filled 16 (drop at b)
 
 unfoldable pub keysIn : List ℕ → Keys
 keysIn b = record { k0 = sixteen b 23; k1 = sixteen b 39; k2 = sixteen b 55; k3 = sixteen b 71; k4 = sixteen b 87 }

@@ -1,5 +1,5 @@
 -- A list as its elements one by one, and a list cut or filled with zero bytes.
-use Prim.Native.Nat.{ℕ, zero, suc, _≤_}
+use Prim.Native.Nat.{ℕ, zero, suc, _≤_, _<_}
 use mathlib.Core.List.{List, [], _∷_, _++_}
 use mathlib.Core.Path.{_≡_, refl, sym, ap, subst, _∙_}
 use lib.ListN.{length, getD, take, replicate}
@@ -39,6 +39,14 @@ zeros-enough (suc n) m (a ∷ l) h = ap (λ (x : List ℕ). a ∷ x) (zeros-enou
 pub filled-listed : (n : ℕ) (l : List ℕ) → filled n l ≡ listed n (λ i. getD l i 0)
 unfolding filled
 filled-listed n l = zeros-enough n n l (omega arith)
+
+pub filled-byte : (n : ℕ) (l : List ℕ) (i : ℕ) → i < n → getD (filled n l) i 0 ≡ getD l i 0
+filled-byte n l i h = ap (λ (x : List ℕ). getD x i 0) (filled-listed n l) ∙ gives n (λ i. getD l i 0) i h
+  where
+    gives : (n : ℕ) (f : ℕ → ℕ) (i : ℕ) → i < n → getD (listed n f) i 0 ≡ f i
+    gives zero f i h = absurd (omega arith)
+    gives (suc n) f zero h = refl
+    gives (suc n) f (suc i) h = gives n (λ j. f (suc j)) i (omega arith)
 
 pub length-filled : (n : ℕ) (l : List ℕ) → length (filled n l) ≡ n
 length-filled n l = ap length (filled-listed n l) ∙ counts n (λ i. getD l i 0)

@@ -1,6 +1,6 @@
 -- A card without a session holds no byte of one.
 use Prim.Native.Nat.{ℕ}
-use mathlib.Core.Bool.{true, false, true≢false}
+use mathlib.Core.Bool.{false, true≢false}
 use mathlib.Core.List.{List, [], _∷_}
 use mathlib.Core.Path.{_≡_, refl, sym, ap, subst}
 use lib.Dec.{eqb}

@@ -11,7 +11,7 @@ use lib.ListN.{length, take, drop, length-append}
 use lib.Seq.{take-at, drop-at}
 use Rattle.tables.specs.Choice.{pick, none, or-no, or-none, and-left, and-right, and-both}
 use Rattle.tables.specs.Reasons.{NoReason, none-first}
-use Rattle.wire.specs.Bytes.{word, same, le3}
+use Rattle.wire.specs.Bytes.{word, le3}
 use Rattle.wire.specs.Same.{same-equal}
 use Rattle.access.specs.declared.Access.{Access}
 use Rattle.channel.specs.declared.Inputs.{Inputs}

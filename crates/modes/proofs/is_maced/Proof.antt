@@ -5,7 +5,6 @@ use Rattle.tables.specs.Choice.{and-left}
 use mathlib.Core.Path.{sym, _∙_}
 use borrow.Author.Tests.{not-true, not-false}
 use Rattle.columns.specs.Row.{told}
-use borrow.Author.Needs.{needs}
 use Rattle.modes.proofs.is_maced.Statement.{statement}
 use Rattle.modes.proofs.is_maced.Tie as tie
 

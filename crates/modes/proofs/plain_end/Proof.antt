@@ -1,6 +1,5 @@
 use Rattle.tables.specs.Choice.{hit, skip}
 use mathlib.Core.Path.{refl}
-use borrow.Author.Needs.{needs}
 use Rattle.modes.proofs.plain_end.Statement.{statement}
 use Rattle.modes.proofs.plain_end.Tie as tie
 

@@ -3,7 +3,6 @@ use Rattle.card.specs.View.{onChannel}
 use Rattle.channel.specs.Channel.{bare}
 use mathlib.Core.Bool.{not}
 use mathlib.Core.Path.{sym, ap, _∙_}
-use borrow.Author.Needs.{needs}
 use Rattle.card.proofs.Card.change_session.Statement.{statement}
 use Rattle.card.proofs.Card.change_session.Tie as tie
 

@@ -1,7 +1,6 @@
 use Rattle.card.specs.Events.{ended}
 use Rattle.card.specs.View.{view, put}
 use mathlib.Core.Path.{refl}
-use borrow.Author.Needs.{needs}
 use Rattle.card.proofs.Card.ended.Statement.{statement}
 use Rattle.card.proofs.Card.ended.Tie as tie
 

@@ -1,6 +1,5 @@
 use Rattle.card.specs.Laws.{power-broken, power-ends}
 use mathlib.Core.Path.{sym, _∙_}
-use borrow.Author.Needs.{needs}
 use Rattle.card.proofs.Card.power_up.Statement.{statement}
 use Rattle.card.proofs.Card.power_up.Tie as tie
 

@@ -4,7 +4,7 @@ use Rattle.card.specs.Accepted.{baseShown}
 use Rattle.wire.specs.Bytes.{Shows}
 use Rattle.wire.specs.Laws.{shows-length}
 use Rattle.replies.specs.Guarded.{shownIn}
-use Rattle.tables.specs.Choice.{pick, pick-both}
+use Rattle.tables.specs.Choice.{pick}
 use mathlib.Core.List.{List}
 use Prim.Native.Nat.{ℕ, _+_, _≤_}
 use lib.ListN.{length}

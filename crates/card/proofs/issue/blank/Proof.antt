@@ -1,7 +1,6 @@
 use Rattle.card.specs.Events.{blank, issued}
 use lib.IntN.{pos}
 use mathlib.Core.Path.{_∙_}
-use borrow.Author.Needs.{needs}
 use Rattle.card.proofs.issue.blank.Statement.{statement}
 use Rattle.card.proofs.issue.blank.Tie as tie
 

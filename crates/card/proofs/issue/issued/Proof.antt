@@ -1,7 +1,6 @@
 use Rattle.card.specs.Events.{issued}
 use mir.Facts.{toZ-ofZ}
 use mathlib.Core.Path.{refl}
-use borrow.Author.Needs.{needs}
 use Rattle.card.proofs.issue.issued.Statement.{statement}
 use Rattle.card.proofs.issue.issued.Tie as tie
 

@@ -1,6 +1,5 @@
 use Rattle.commands.specs.PlacesLaws.{asked-by}
 use denote.Ref.{now}
-use borrow.Author.Needs.{needs}
 use Rattle.commands.proofs.Places.asked.Statement.{statement}
 use Rattle.commands.proofs.Places.asked.Tie as tie
 

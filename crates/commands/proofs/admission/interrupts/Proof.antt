@@ -1,5 +1,4 @@
 use Rattle.rows.specs.Rows.{interrupts}
-use borrow.Author.Needs.{needs}
 use Rattle.commands.proofs.admission.interrupts.Statement.{statement}
 use Rattle.commands.proofs.admission.interrupts.Tie as tie
 

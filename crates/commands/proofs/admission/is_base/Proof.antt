@@ -1,5 +1,4 @@
 use Rattle.columns.specs.Row.{told}
-use borrow.Author.Needs.{needs}
 use Rattle.commands.proofs.admission.is_base.Statement.{statement}
 use Rattle.commands.proofs.admission.is_base.Tie as tie
 

@@ -1,5 +1,4 @@
 use Rattle.rows.specs.Rows.{unknownCommand}
-use borrow.Author.Needs.{needs}
 use Rattle.commands.proofs.admission.unknown_command.Statement.{statement}
 use Rattle.commands.proofs.admission.unknown_command.Tie as tie
 

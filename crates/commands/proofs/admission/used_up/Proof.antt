@@ -1,5 +1,4 @@
 use Rattle.rows.specs.Rows.{usedUp}
-use borrow.Author.Needs.{needs}
 use Rattle.commands.proofs.admission.used_up.Statement.{statement}
 use Rattle.commands.proofs.admission.used_up.Tie as tie
 
