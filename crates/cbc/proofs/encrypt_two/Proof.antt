@@ -1,5 +1,9 @@
 use borrow.Author.Needs.{needs}
-use mathlib.Core.Path.{_≡_}
+use mathlib.Core.Path.{_≡_, ap, ap₂, _∙_}
+use mathlib.Core.List.{List, _++_}
+use Prim.Native.Nat.{ℕ}
+use Rattle.field.specs.Bytes.{_⊞_, zeros}
+use Rattle.fips197.specs.Cipher.{cipher}
 use lib.ListN.{length}
 use Rattle.cbc.proofs.Blocks.{encrypted-two}
 use Rattle.cbc.proofs.encrypt_two.Statement.{statement}
@@ -9,7 +13,13 @@ long : (s : tie.Start) → length (s .args .x) ≡ 32
 long s = search needs
 
 returns : tie.Need-returns
-returns c = let s = c .before .before .before .before .before .before .before .before in cc (encrypted-two (s .args .key) (s .args .x) (long s))
+returns c =
+    let c₄ = c .before .before .before .before in
+    let s = c₄ .before .before .before .before in
+    let w = c₄ .before .before .before .key-expansion .ensures in
+    let a = c₄ .cipher .ensures ∙ ap₂ cipher w (c₄ .before .add-blocks .ensures ∙ ap (λ (y : List ℕ). y ⊞ zeros) (c₄ .before .before .first .ensures)) in
+    let b = c .before .cipher2 .ensures ∙ ap₂ cipher w (c .before .before .add-blocks2 .ensures ∙ ap₂ _⊞_ (c .before .before .before .second .ensures) a) in
+    c .joined .ensures ∙ ap₂ _++_ a b ∙ encrypted-two (s .args .key) (s .args .x) (long s)
 
 pub encrypt-two-spec : {M : Type 1} → statement M
 encrypt-two-spec =
