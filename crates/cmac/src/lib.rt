@@ -22,41 +22,15 @@ fn carry(a: u8) -> u8
 fn double(l: [u8; 16]) -> [u8; 16]
     ensures { λ r. ⌜ r ≡ doubled l ⌝ }
 {
-    let l0 = l[0];
-    let l1 = l[1];
-    let l2 = l[2];
-    let l3 = l[3];
-    let l4 = l[4];
-    let l5 = l[5];
-    let l6 = l[6];
-    let l7 = l[7];
-    let l8 = l[8];
-    let l9 = l[9];
-    let l10 = l[10];
-    let l11 = l[11];
-    let l12 = l[12];
-    let l13 = l[13];
-    let l14 = l[14];
-    let l15 = l[15];
-    let last = carry(l0);
-    [
-        l0 << 1 ^ l1 >> 7,
-        l1 << 1 ^ l2 >> 7,
-        l2 << 1 ^ l3 >> 7,
-        l3 << 1 ^ l4 >> 7,
-        l4 << 1 ^ l5 >> 7,
-        l5 << 1 ^ l6 >> 7,
-        l6 << 1 ^ l7 >> 7,
-        l7 << 1 ^ l8 >> 7,
-        l8 << 1 ^ l9 >> 7,
-        l9 << 1 ^ l10 >> 7,
-        l10 << 1 ^ l11 >> 7,
-        l11 << 1 ^ l12 >> 7,
-        l12 << 1 ^ l13 >> 7,
-        l13 << 1 ^ l14 >> 7,
-        l14 << 1 ^ l15 >> 7,
-        l15 << 1 ^ last,
-    ]
+    let mut r = l;
+    let mut i: usize = 0;
+    while i < 15 {
+        let next = i + 1;
+        r[i] = l[i] << 1 ^ l[next] >> 7;
+        i = next;
+    }
+    r[15] = l[15] << 1 ^ carry(l[0]);
+    r
 }
 
 // The two subkeys, for whoever compares them with published figures.

@@ -1,14 +1,16 @@
 -- Laws of lists of bytes.
-use mathlib.Core.Path.{_≡_, refl, ap, ap₂, _∙_}
+use mathlib.Core.Path.{_≡_, refl, sym, ap, ap₂, _∙_}
 use mathlib.Core.List.{List, [], _∷_, _++_}
-use Prim.Native.Nat.{ℕ, zero, suc, _<_}
+use Prim.Native.Nat.{ℕ, zero, suc, _+_, _<_}
 use native.Mathlib.Nat.{suc-inj}
+use native.Mathlib.Numerals.{add-one}
 use native.Mathlib.Omega.{arith}
 use mir.Syntax.{w8}
 use mir.Val.{Fits}
 use lib.Bits.{xor-comm}
 use lib.Dec.{lit<}
-use lib.ListN.{length, getD, take, drop}
+use lib.ListN.{length, getD, take, drop, set}
+use lib.Seq.{take-suc-set}
 use Rattle.field.specs.Field.{_⊕_}
 use Rattle.field.specs.Bytes.{Bytes, Sized, Block, tabled, sum, _⊞_, zeros}
 use Rattle.field.specs.Sums.{sum-assoc, sum-twice, sum-lt}
@@ -40,6 +42,14 @@ drop-bytes (suc n) (a ∷ l) b = drop-bytes n l (b .1)
 pub tabled-alike : {A : Type 0} (n : ℕ) {f g : ℕ → A} → ((i : ℕ) → f i ≡ g i) → tabled n f ≡ tabled n g
 tabled-alike zero h = refl
 tabled-alike (suc n) h = h 0 ∷≡ tabled-alike n (λ i. h (suc i))
+
+tabled-next : {A : Type 0} (n : ℕ) (f : ℕ → A) → tabled (suc n) f ≡ tabled n f ++ f n ∷ []
+tabled-next zero f = refl
+tabled-next (suc n) f = refl ∷≡ tabled-next n (λ i. f (suc i))
+
+-- a list that begins with the first entries of a table, and the next one stored
+pub stored-next : (f : ℕ → ℕ) (r : List ℕ) (i : ℕ) → i < length r → take i r ≡ tabled i f → take (i + 1) (set r i (f i)) ≡ tabled (i + 1) f
+stored-next f r i h e = rw add-one (take-suc-set r i (f i) h ∙ ap (λ (l : List ℕ). l ++ f i ∷ []) e ∙ sym (tabled-next i f))
 
 tabled-long : (n : ℕ) (f : ℕ → ℕ) → length (tabled n f) ≡ n
 tabled-long zero f = refl

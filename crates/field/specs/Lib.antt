@@ -3,4 +3,5 @@ pub mod Bytes
 pub mod Every
 pub mod Sums
 pub mod Laws
+pub mod Inverses
 pub mod Inverse
