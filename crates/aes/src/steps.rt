@@ -11,24 +11,13 @@ ghost use Rattle.aes.specs.Column.{column, multiples};
 pub fn substituted(t: &[u8; 256], s: [u8; 16]) -> [u8; 16]
     ensures { λ r. ⌜ ((f : ℕ → ℕ) → now (t .entry) ≡ table f → r ≡ bytewise f s) ⌝ }
 {
-    [
-        sbox::look(t, s[0]),
-        sbox::look(t, s[1]),
-        sbox::look(t, s[2]),
-        sbox::look(t, s[3]),
-        sbox::look(t, s[4]),
-        sbox::look(t, s[5]),
-        sbox::look(t, s[6]),
-        sbox::look(t, s[7]),
-        sbox::look(t, s[8]),
-        sbox::look(t, s[9]),
-        sbox::look(t, s[10]),
-        sbox::look(t, s[11]),
-        sbox::look(t, s[12]),
-        sbox::look(t, s[13]),
-        sbox::look(t, s[14]),
-        sbox::look(t, s[15]),
-    ]
+    let mut r = s;
+    let mut i: usize = 0;
+    while i < 16 {
+        r[i] = sbox::look(t, s[i]);
+        i += 1;
+    }
+    r
 }
 
 pub fn shift_rows(s: [u8; 16]) -> [u8; 16]

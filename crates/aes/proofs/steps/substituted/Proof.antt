@@ -1,25 +1,44 @@
-use lib.Dec.{lit<}
-use mathlib.Core.Path.{refl}
-use Rattle.field.specs.Laws.{_∷≡_}
+use borrow.Author.Needs.{needs}
+use mathlib.Core.Path.{_≡_, refl, ap, _∙_, sym}
+use mathlib.Core.List.{List}
+use Prim.Native.Nat.{ℕ, _+_, _≤_, _-_}
+use native.Mathlib.Omega.{arith}
+use lib.ListN.{length, getD, take, set, length-set}
+use lib.Seq.{take-all}
+use Rattle.field.specs.Bytes.{tabled, table}
+use Rattle.field.specs.Laws.{stored-next}
 use Rattle.fips197.specs.Steps.{bytewise}
 use Rattle.aes.proofs.steps.substituted.Statement.{statement}
 use Rattle.aes.proofs.steps.substituted.Tie as tie
 
-returns : tie.Need-returns
+abbrev Inv-loop : tie.InvT-loop
+Inv-loop t s r₀ i₀ r i = (i ≤ 16) × (length r ≡ 16) × ((f : ℕ → ℕ) → t ≡ table f → take i r ≡ tabled i (λ j. f (getD s j 0)))
+
+abbrev μ-loop : tie.MeasureT-loop
+μ-loop t s r₀ i₀ r i = 16 - i
+
+loop-holds : tie.Need-loop-holds Inv-loop μ-loop
+loop-holds c = (omega arith, search needs, λ f e. refl)
+
+loop-again : tie.Need-loop-again Inv-loop μ-loop
+loop-again c =
+    let l = c .before .before .loop in
+    let s = c .before .before .before .args .t2 in
+    (omega arith, simp length-set (l .inv .1), λ f e.
+    ap (λ (v : ℕ). take (l .i + 1) (set (l .r) (l .i) v)) (c .look .ensures f e)
+    ∙ stored-next (λ j. f (getD s j 0)) (l .r) (l .i) (omega arith) (l .inv .2 f e))
+
+returns : tie.Need-returns Inv-loop μ-loop
 unfolding bytewise
 returns c =
+    let l = c .before .loop in
+    let s = c .before .before .args .t2 in
+    let h : l .i ≡ 16 = omega arith in
     λ f e.
-    let c₁₅ = c .before in let c₁₄ = c₁₅ .before in let c₁₃ = c₁₄ .before in let c₁₂ = c₁₃ .before in
-    let c₁₁ = c₁₂ .before in let c₁₀ = c₁₁ .before in let c₉ = c₁₀ .before in let c₈ = c₉ .before in
-    let c₇ = c₈ .before in let c₆ = c₇ .before in let c₅ = c₆ .before in let c₄ = c₅ .before in let c₃ = c₄ .before in
-    let c₂ = c₃ .before in let c₁ = c₂ .before in
-    c₁ .look .ensures f e ∷≡ c₂ .look2 .ensures f e ∷≡ c₃ .look3 .ensures f e ∷≡ c₄ .look4 .ensures f e ∷≡ c₅ .look5 .ensures f e ∷≡ c₆ .look6 .ensures f e ∷≡ c₇ .look7 .ensures f e ∷≡ c₈ .look8 .ensures f e ∷≡ c₉ .look9 .ensures f e ∷≡ c₁₀ .look10 .ensures f e ∷≡ c₁₁ .look11 .ensures f e ∷≡ c₁₂ .look12 .ensures f e ∷≡ c₁₃ .look13 .ensures f e ∷≡ c₁₄ .look14 .ensures f e ∷≡ c₁₅ .look15 .ensures f e ∷≡ c .look16 .ensures f e ∷≡ refl
+    sym (take-all 16 (l .r) (omega arith)) ∙ ap (λ (i : ℕ). take i (l .r)) (sym h) ∙ l .inv .2 f e
+    ∙ ap (λ (i : ℕ). tabled i (λ j. f (getD s j 0))) h
 
 pub substituted-spec : {M : Type 1} → statement M
 substituted-spec =
     tie.close
-    (tie.spec (λ c. lit< tt) (λ c κs. tt) (λ c. lit< tt) (λ c κs. tt) (λ c. lit< tt) (λ c κs. tt) (λ c. lit< tt)
-    (λ c κs. tt) (λ c. lit< tt) (λ c κs. tt) (λ c. lit< tt) (λ c κs. tt) (λ c. lit< tt) (λ c κs. tt) (λ c. lit< tt)
-    (λ c κs. tt) (λ c. lit< tt) (λ c κs. tt) (λ c. lit< tt) (λ c κs. tt) (λ c. lit< tt) (λ c κs. tt) (λ c. lit< tt)
-    (λ c κs. tt) (λ c. lit< tt) (λ c κs. tt) (λ c. lit< tt) (λ c κs. tt) (λ c. lit< tt) (λ c κs. tt) (λ c. lit< tt)
-    (λ c κs. tt) returns)
+    (tie.spec Inv-loop μ-loop loop-holds (λ c. search needs) (λ c κs. tt) (λ c. search needs) (λ c. search needs) (λ c. omega arith) loop-again returns)
