@@ -23,10 +23,13 @@ loop-holds c = (omega arith, search needs, λ f e. refl)
 loop-again : tie.Need-loop-again Inv-loop μ-loop
 loop-again c =
     let l = c .before .before .loop in
-    let s = c .before .before .before .args .t2 in
-    (omega arith, simp length-set (l .inv .1), λ f e.
-    ap (λ (v : ℕ). take (l .i + 1) (set (l .r) (l .i) v)) (c .look .ensures f e)
-    ∙ stored-next (λ j. f (getD s j 0)) (l .r) (l .i) (omega arith) (l .inv .2 f e))
+    let s = c .before .before .before .args .t2 in (
+      omega arith,
+      simp length-set (l .inv .1),
+      λ f e.
+          ap (λ (v : ℕ). take (l .i + 1) (set (l .r) (l .i) v)) (c .look .ensures f e)
+          ∙ stored-next (λ j. f (getD s j 0)) (l .r) (l .i) (omega arith) (l .inv .2 f e),
+    )
 
 returns : tie.Need-returns Inv-loop μ-loop
 unfolding bytewise
