@@ -1,3 +1,6 @@
+use Rattle.keys.specs.declared.Keys.{Keys}
+use mathlib.Core.List.{List}
+use Prim.Native.Nat.{ℕ}
 use Rattle.orders.specs.Order.{keysIn}
 use borrow.Author.Needs.{needs}
 use Rattle.orders.proofs.keys_in.Statement.{statement}
@@ -18,9 +21,14 @@ sixteen-at-requires-4 c κs = search needs
 sixteen-at-requires-5 : tie.Need-sixteen-at-requires-5
 sixteen-at-requires-5 c κs = search needs
 
+abbrev keysOf : List ℕ → List ℕ → List ℕ → List ℕ → List ℕ → Keys
+keysOf a b c d e = record { k0 = a; k1 = b; k2 = c; k3 = d; k4 = e }
+
 returns : tie.Need-returns
 unfolding keysIn
-returns c = cc
+returns c =
+    let c₂ = c .before .before in
+    λ i. keysOf (c₂ .before .before .sixteen-at .ensures i) (c₂ .before .sixteen-at2 .ensures i) (c₂ .sixteen-at3 .ensures i) (c .before .sixteen-at4 .ensures i) (c .sixteen-at5 .ensures i)
 
 pub keys-in-spec : {M : Type 1} → statement M
 keys-in-spec =

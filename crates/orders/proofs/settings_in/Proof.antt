@@ -1,3 +1,7 @@
+use Rattle.settings.specs.declared.Settings.{Settings}
+use Rattle.limits.specs.declared.Limits.{Limits}
+use lib.Dec.{eqb}
+use Prim.Native.Nat.{ℕ, _/_, _%_}
 use Rattle.orders.specs.Order.{settingsIn}
 use borrow.Author.Needs.{needs}
 use Rattle.orders.proofs.settings_in.Statement.{statement}
@@ -27,6 +31,24 @@ le2-at-requires-5 c κs = search needs
 limits-in-requires : tie.Need-limits-in-requires
 limits-in-requires c κs = search needs
 
+abbrev settingsOf : ℕ → ℕ → ℕ → ℕ → ℕ → ℕ → ℕ → Limits → Settings
+settingsOf a b c d e m s l =
+    record {
+      r00 = a;
+      r04 = b;
+      r1f = c;
+      r03 = d;
+      r01 = e;
+      m00 = eqb (m % 2) 1;
+      m04 = eqb (m / 2 % 2) 1;
+      m1f = eqb (m / 4 % 2) 1;
+      m03 = eqb (m / 8 % 2) 1;
+      m01 = eqb (m / 16 % 2) 1;
+      limits = l;
+      limited = eqb (s % 2) 1;
+      free = eqb (s / 2 % 2) 1;
+    }
+
 returns : tie.Need-returns
 unfolding settingsIn
 returns c =
@@ -35,7 +57,9 @@ returns c =
     let l3 = l4 .before in
     let l2 = l3 .before in
     let l1 = l2 .before in
-    rw (l1 .le2-at .ensures, l2 .le2-at2 .ensures, l3 .le2-at3 .ensures, l4 .le2-at4 .ensures, l5 .le2-at5 .ensures, c .limits-in .ensures, l1 .before .byte-at2 .ensures, l1 .before .before .byte-at .ensures)
+    λ i.
+    settingsOf (l1 .le2-at .ensures i) (l2 .le2-at2 .ensures i) (l3 .le2-at3 .ensures i) (l4 .le2-at4 .ensures i) (l5 .le2-at5 .ensures i)
+    (l1 .before .byte-at2 .ensures i) (l1 .before .before .byte-at .ensures i) (c .limits-in .ensures i)
 
 pub settings-in-spec : {M : Type 1} → statement M
 settings-in-spec =

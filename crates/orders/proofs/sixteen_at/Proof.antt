@@ -4,8 +4,9 @@ use lib.ListN.{length, take, length-set}
 use lib.Seq.{take-all, take-suc, take-suc-set}
 use native.Mathlib.Numerals.{add-one}
 use native.Mathlib.Omega.{arith}
-use Prim.Native.Nat.{_-_, _≤_}
-use mathlib.Core.Path.{_≡_, refl, sym, _∙_}
+use Prim.Native.Nat.{ℕ, _-_, _≤_}
+use mathlib.Core.List.{List, [], _∷_, _++_}
+use mathlib.Core.Path.{_≡_, refl, ap₂, sym, _∙_}
 use borrow.Author.Needs.{needs}
 use Rattle.orders.proofs.sixteen_at.Statement.{statement}
 use Rattle.orders.proofs.sixteen_at.Tie as tie
@@ -44,7 +45,10 @@ loop-again c =
     let e = sixteen-byte (a .b .now) (a .at) i (omega arith) in (
       omega arith,
       simp length-set (l .loop .inv .1),
-      rw (add-one, take-suc-set (l .loop .key) i (c .byte-at .result) (omega arith), take-suc (sixteen (a .b .now) (a .at)) i 0 (omega arith)) (cc),
+      rw add-one
+          (take-suc-set (l .loop .key) i (c .byte-at .result) (omega arith)
+          ∙ ap₂ (λ (t : List ℕ) (x : ℕ). t ++ x ∷ []) (l .loop .inv .2) (c .byte-at .ensures ∙ sym e)
+          ∙ sym (take-suc (sixteen (a .b .now) (a .at)) i 0 (omega arith))),
     )
 
 returns : tie.Need-returns Inv-loop μ-loop
