@@ -93,7 +93,7 @@ pub(crate) fn put_maced(draft: Draft, frame: &[u8], text: &mut [u8]) -> Step
     let key = draft.key;
     let ti = draft.ti;
     let mut bytes = [0u8; 261];
-    let n = till::seal_frame(key, ti, draft.counter, frame, &mut bytes);
+    let n = sealed::seal_frame(key, ti, draft.counter, frame, &mut bytes);
     if n == 0 {
         return put_unread(draft, text);
     }

@@ -39,7 +39,7 @@ fn authentication() {
 fn mac_mode() {
     let key = block(b"8248134A386E86EB7FAF54A52E536CB6");
     let mut out = [0u8; 32];
-    let n = till::seal_frame(
+    let n = sealed::seal_frame(
         key,
         [0x7A, 0x21, 0x08, 0x5E],
         0,

@@ -1,13 +1,13 @@
 use Rattle.till.specs.Laws.{length-data, in-short, in-long, in-full}
-use Rattle.till.proofs.Laying.{sealed-shown}
+use Rattle.sealed.proofs.Laying.{sealed-shown}
 use Rattle.wire.specs.Laws.{shows-as, shows-none}
 use lib.ListN.{length}
 use native.Mathlib.Omega.{arith}
 use denote.Ref.{now}
 use mathlib.Core.Path.{sym, ap}
 use borrow.Author.Needs.{needs}
-use Rattle.till.proofs.seal_frame.Statement.{statement}
-use Rattle.till.proofs.seal_frame.Tie as tie
+use Rattle.sealed.proofs.seal_frame.Statement.{statement}
+use Rattle.sealed.proofs.seal_frame.Tie as tie
 
 returns : tie.Need-returns
 returns c = let a = c .before .before .before .args in shows-as _ _ _ _ _ (sym (in-short (length (now (a .out))) (a .key) (a .ti) (a .counter) (now (a .frame)) (c .if1 .taken))) (shows-none (now (a .out)))

@@ -1,10 +1,10 @@
-use Rattle.till.proofs.Laying.{parts-by}
+use Rattle.sealed.proofs.Laying.{parts-by}
 use lib.ListN.{length}
 use mathlib.Core.Path.{_≡_}
 use denote.Ref.{now}
 use borrow.Author.Needs.{needs}
-use Rattle.till.proofs.put_parts.Statement.{statement}
-use Rattle.till.proofs.put_parts.Tie as tie
+use Rattle.sealed.proofs.put_parts.Statement.{statement}
+use Rattle.sealed.proofs.put_parts.Tie as tie
 
 cast-t9 : tie.Need-cast-t9
 cast-t9 c = search needs
