@@ -10,10 +10,7 @@ fn round(t: &[u8; 256], s: [u8; 16], k: [u8; 16]) -> [u8; 16]
     requires { ⌜ now t ≡ table sbox ⌝ }
     ensures { λ r. ⌜ r ≡ round s k ⌝ }
 {
-    field::add_blocks(
-        steps::mix_columns(steps::shift_rows(steps::substituted(t, s))),
-        k,
-    )
+    field::add_blocks(steps::mix_columns(steps::sub_shift(t, s)), k)
 }
 
 pub fn cipher(w: [[u8; 16]; 11], b: [u8; 16]) -> [u8; 16]
@@ -27,14 +24,14 @@ pub fn cipher(w: [[u8; 16]; 11], b: [u8; 16]) -> [u8; 16]
         let u = round(&t, s, w[i]);
         s = u;
     }
-    field::add_blocks(steps::shift_rows(steps::substituted(&t, s)), w[10])
+    field::add_blocks(steps::sub_shift(&t, s), w[10])
 }
 
 fn inv_round(t: &[u8; 256], s: [u8; 16], k: [u8; 16]) -> [u8; 16]
     requires { ⌜ now t ≡ table invSbox ⌝ }
     ensures { λ r. ⌜ r ≡ invRound s k ⌝ }
 {
-    steps::inv_mix_columns(field::add_blocks(steps::substituted(t, steps::inv_shift_rows(s)), k))
+    steps::inv_mix_columns(field::add_blocks(steps::inv_shift_sub(t, s), k))
 }
 
 pub fn inv_cipher(w: [[u8; 16]; 11], b: [u8; 16]) -> [u8; 16]
@@ -48,5 +45,5 @@ pub fn inv_cipher(w: [[u8; 16]; 11], b: [u8; 16]) -> [u8; 16]
         s = u;
         i -= 1;
     }
-    field::add_blocks(steps::substituted(&t, steps::inv_shift_rows(s)), w[0])
+    field::add_blocks(steps::inv_shift_sub(&t, s), w[0])
 }

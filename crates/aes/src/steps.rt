@@ -1,69 +1,40 @@
 // The steps of a round, FIPS 197 sections 5.1 and 5.3. A table is lent to what looks up in it.
 ghost use mathlib.Core.Path.{_≡_};
 ghost use mathlib.Core.List.{_++_};
-ghost use Prim.Native.Nat.{ℕ};
+ghost use Prim.Native.Nat.{ℕ, _≤_};
 ghost use Rattle.field.specs.Field.{xtime};
 ghost use Rattle.field.specs.Bytes.{table};
 ghost use Rattle.fips197.specs.Steps.{bytewise, shiftRows, mixed, mixColumns, invShiftRows, unmixed, invMixColumns};
-ghost use Rattle.aes.specs.Column.{column, multiples};
+ghost use Rattle.aes.specs.Column.{taken, column, multiples};
 
-// SubBytes and InvSubBytes: the function of the table on each byte.
-pub fn substituted(t: &[u8; 256], s: [u8; 16]) -> [u8; 16]
-    ensures { λ r. ⌜ ((f : ℕ → ℕ) → now (t .entry) ≡ table f → r ≡ bytewise f s) ⌝ }
+// The function of the table on each byte, with the byte at place i taken from place i times far, modulo 16: SubBytes with
+// ShiftRows where far is 5, and InvSubBytes with InvShiftRows where it is 13.
+fn substituted(t: &[u8; 256], s: [u8; 16], far: usize) -> [u8; 16]
+    requires { ⌜ far ≤ 13 ⌝ }
+    ensures { λ r. ⌜ ((f : ℕ → ℕ) → now (t .entry) ≡ table f → r ≡ taken f s far) ⌝ }
 {
     let mut r = s;
     let mut i: usize = 0;
     while i < 16 {
-        r[i] = sbox::look(t, s[i]);
+        let from = i * far % 16;
+        r[i] = sbox::look(t, s[from]);
         i += 1;
     }
     r
 }
 
-pub fn shift_rows(s: [u8; 16]) -> [u8; 16]
-    ensures { λ r. ⌜ r ≡ shiftRows s ⌝ }
+// SubBytes, then ShiftRows.
+pub fn sub_shift(t: &[u8; 256], s: [u8; 16]) -> [u8; 16]
+    ensures { λ r. ⌜ ((f : ℕ → ℕ) → now (t .entry) ≡ table f → r ≡ shiftRows (bytewise f s)) ⌝ }
 {
-    [
-        s[0],
-        s[5],
-        s[10],
-        s[15],
-        s[4],
-        s[9],
-        s[14],
-        s[3],
-        s[8],
-        s[13],
-        s[2],
-        s[7],
-        s[12],
-        s[1],
-        s[6],
-        s[11],
-    ]
+    substituted(t, s, 5)
 }
 
-pub fn inv_shift_rows(s: [u8; 16]) -> [u8; 16]
-    ensures { λ r. ⌜ r ≡ invShiftRows s ⌝ }
+// InvShiftRows, then InvSubBytes.
+pub fn inv_shift_sub(t: &[u8; 256], s: [u8; 16]) -> [u8; 16]
+    ensures { λ r. ⌜ ((f : ℕ → ℕ) → now (t .entry) ≡ table f → r ≡ bytewise f (invShiftRows s)) ⌝ }
 {
-    [
-        s[0],
-        s[13],
-        s[10],
-        s[7],
-        s[4],
-        s[1],
-        s[14],
-        s[11],
-        s[8],
-        s[5],
-        s[2],
-        s[15],
-        s[12],
-        s[9],
-        s[6],
-        s[3],
-    ]
+    substituted(t, s, 13)
 }
 
 pub fn xtime(a: u8) -> u8

@@ -19,7 +19,8 @@ use Rattle.lines.specs.Lines.{Said}
 use Rattle.lines.specs.Laws.{text-there}
 use Rattle.held.specs.declared.Draft.{Draft}
 use Rattle.drafts.specs.declared.Step.{Step}
-use Rattle.held.specs.Held.{counted, opened}
+use Rattle.held.specs.Held.{counted}
+use Rattle.opening.specs.Opening.{opened}
 use Rattle.drafts.specs.Drafts.{authenticated, unread, maced, Writes}
 
 pub writes-as : {o p : Said Draft} (b after : List ℕ) (r : Step) → o ≡ p → Writes o b after r → Writes p b after r

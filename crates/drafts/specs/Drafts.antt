@@ -11,7 +11,8 @@ use Rattle.text.specs.Hex.{isHex, spelt, inDigits}
 use Rattle.till.specs.Till.{firstFrame, secondPart, secondFrame, sealed, sealable}
 use Rattle.lines.specs.Lines.{Said}
 use Rattle.held.specs.declared.Draft.{Draft}
-use Rattle.held.specs.Held.{over, counted, sent, noted, opened}
+use Rattle.held.specs.Held.{over, counted, sent, noted}
+use Rattle.opening.specs.Opening.{opened}
 use Rattle.drafts.specs.declared.Step.{Step}
 
 -- ---- what is written

@@ -77,7 +77,7 @@ pub(crate) fn put_authenticated(draft: Draft, b: &[u8], text: &mut [u8]) -> Step
     let second = till::second_frame(till::second_part(k, a, random));
     let len = put_two(first, second, text);
     Step {
-        draft: held::opened(draft, k, a),
+        draft: opening::opened(draft, k, a),
         len,
     }
 }

@@ -1,14 +1,13 @@
 -- What the terminal holds between two lines of a draft. It sees no reply: a session is held as if the card had accepted each
 -- command.
 use Prim.Native.Nat.{ℕ, _+_}
-use mathlib.Core.Bool.{true, false, _||_}
+use mathlib.Core.Bool.{false, _||_}
 use mathlib.Core.List.{List}
 use lib.Dec.{eqb, ltb}
 use lib.ListN.{replicate}
 use Rattle.tables.specs.Choice.{pick}
 use Rattle.wire.specs.Bytes.{part}
 use Rattle.frames.specs.Frame.{insOf}
-use Rattle.derivation.specs.Derivation.{macKey}
 use Rattle.held.specs.declared.Draft.{Draft}
 
 -- at the start: zeros, and no session
@@ -33,7 +32,3 @@ sent d f = pick (eqb (insOf f) 0x71 || eqb (insOf f) 0xAF) (over d) (counted d)
 -- the card's random number and transaction identifier, as the bench hands them in from here on
 unfoldable pub noted : Draft → List ℕ → Draft
 noted d b = record { random = part b 0 16; identifier = part b 16 20; held = d .held; key = d .key; ti = d .ti; counter = d .counter }
-
--- a session opened with the key k and RndA a
-unfoldable pub opened : Draft → List ℕ → List ℕ → Draft
-opened d k a = record { random = d .random; identifier = d .identifier; held = true; key = macKey k a (d .random); ti = d .identifier; counter = 0 }

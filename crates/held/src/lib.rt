@@ -1,6 +1,6 @@
 // What the terminal holds between two lines of a draft.
 ghost use mathlib.Core.Path.{_≡_};
-ghost use Rattle.held.specs.Held.{begun, over, raised, counted, sent, opened};
+ghost use Rattle.held.specs.Held.{begun, over, raised, counted, sent};
 
 // The card's random number and transaction identifier that the last N line handed in, and the session, if one is held, by its
 // MAC key, transaction identifier and command counter.
@@ -64,18 +64,4 @@ pub fn sent(draft: Draft, frame: &[u8]) -> Draft
         return over(draft);
     }
     counted(draft)
-}
-
-// A session opened with the key k and RndA a.
-pub fn opened(mut draft: Draft, k: [u8; 16], a: [u8; 16]) -> Draft
-    ensures { λ r. ⌜ r ≡ opened draft k a ⌝ }
-{
-    let b = draft.random;
-    let key = derivation::mac_key(k, a, b);
-    let ti = draft.identifier;
-    draft.held = true;
-    draft.key = key;
-    draft.ti = ti;
-    draft.counter = 0;
-    draft
 }

@@ -36,21 +36,19 @@ loop-again c =
 returns : tie.Need-returns Inv-loop μ-loop
 unfolding cipher
 returns c =
-    let c₃ = c .before .before .before in
-    let l = c₃ .before .before .before .loop in
-    let a = c₃ .before .before .before .before in
+    let c₂ = c .before .before in
+    let l = c₂ .before .before .before .loop in
+    let a = c₂ .before .before .before .before in
     let w = a .before .before .before .args .t1 in
     let h : l .i ≡ 9 = omega arith in
     c .add-blocks2 .ensures
     ∙ ap (λ (x : List ℕ). x ⊞ getD w 10 [])
-    (c .before .before .shift-rows .ensures
-    ∙ ap shiftRows
-    (c₃ .substituted .ensures sbox (a .before .before .forward .ensures)
-    ∙ ap subBytes (l .inv .1 ∙ ap₂ (rounds w) (a .add-blocks .ensures) h)))
+    (c₂ .sub-shift .ensures sbox (a .before .before .forward .ensures)
+    ∙ ap (λ (x : List ℕ). shiftRows (subBytes x)) (l .inv .1 ∙ ap₂ (rounds w) (a .add-blocks .ensures) h))
 
 pub cipher-spec : {M : Type 1} → statement M
 cipher-spec =
     tie.close
     (tie.spec Inv-loop μ-loop (λ c κs. tt) (λ c. search needs) (λ c κs. tt) (λ c. search needs) (λ c. search needs)
-    (λ c. search needs) (λ c. search needs) round-requires (λ c. search needs) loop-again (λ c κs. tt) (λ c κs. tt)
+    (λ c. search needs) (λ c. search needs) round-requires (λ c. search needs) loop-again (λ c κs. tt)
     (λ c. search needs) (λ c κs. tt) returns)

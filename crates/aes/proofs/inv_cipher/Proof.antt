@@ -36,22 +36,20 @@ loop-again c =
 returns : tie.Need-returns Inv-loop μ-loop
 unfolding invCipher
 returns c =
-    let c₃ = c .before .before .before in
-    let l = c₃ .before .before .before .loop in
-    let a = c₃ .before .before .before .before in
+    let c₂ = c .before .before in
+    let l = c₂ .before .before .before .loop in
+    let a = c₂ .before .before .before .before in
     let w = a .before .before .before .args .t1 in
     let h : l .i ≡ 0 = omega arith in
     c .add-blocks2 .ensures
     ∙ ap (λ (x : List ℕ). x ⊞ getD w 0 [])
-    (c .before .before .substituted .ensures invSbox (a .before .before .backward .ensures)
-    ∙ ap (bytewise invSbox)
-    (c₃ .inv-shift-rows .ensures
-    ∙ ap invShiftRows
-    (ap (λ (n : ℕ). invRounds w n (l .s)) (sym h) ∙ l .inv .1 ∙ ap (invRounds w 9) (a .add-blocks .ensures))))
+    (c₂ .inv-shift-sub .ensures invSbox (a .before .before .backward .ensures)
+    ∙ ap (λ (x : List ℕ). bytewise invSbox (invShiftRows x))
+    (ap (λ (n : ℕ). invRounds w n (l .s)) (sym h) ∙ l .inv .1 ∙ ap (invRounds w 9) (a .add-blocks .ensures)))
 
 pub inv-cipher-spec : {M : Type 1} → statement M
 inv-cipher-spec =
     tie.close
     (tie.spec Inv-loop μ-loop (λ c κs. tt) (λ c. search needs) (λ c κs. tt) (λ c. search needs) (λ c. search needs)
     (λ c. search needs) inv-round-requires (λ c. search needs) (λ c. search needs) loop-again (λ c κs. tt)
-    (λ c κs. tt) (λ c. search needs) (λ c κs. tt) returns)
+    (λ c. search needs) (λ c κs. tt) returns)

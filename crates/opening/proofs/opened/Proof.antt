@@ -2,11 +2,11 @@ use mathlib.Core.Bool.{true}
 use mathlib.Core.List.{List}
 use mathlib.Core.Path.{ap}
 use Prim.Native.Nat.{ℕ}
 use Rattle.held.specs.declared.Draft.{Draft}
-use Rattle.held.specs.Held.{opened}
+use Rattle.opening.specs.Opening.{opened}
 use borrow.Author.Needs.{needs}
-use Rattle.held.proofs.opened.Statement.{statement}
-use Rattle.held.proofs.opened.Tie as tie
+use Rattle.opening.proofs.opened.Statement.{statement}
+use Rattle.opening.proofs.opened.Tie as tie
 
 mac-key-requires : tie.Need-mac-key-requires
 mac-key-requires c κs = search needs
