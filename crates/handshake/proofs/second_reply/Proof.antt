@@ -42,8 +42,19 @@ lay-requires-3 c κs = search needs
 encrypt-two-requires : tie.Need-encrypt-two-requires
 encrypt-two-requires c κs = search needs
 
+lengths : (s : tie.Start) → (length (s .args .t2) ≡ 4) × (length (s .args .t3) ≡ 6)
+lengths s = (search needs, search needs)
+
 returns : tie.Need-returns
-returns c = let s = c .before .before .before .before .before .before .before .before .before .before .before .before .before .before .before .before in let lt : length (s .args .t2) ≡ 4 = search needs in let lc : length (s .args .t3) ≡ 6 = search needs in let la : length (c .before .before .before .before .before .before .before .before .before .before .before .before .before .rotate .result) ≡ 16 = search needs in reply-by (s .args .k) (s .args .t2) (s .args .t3) (now (s .args .d)) lt la lc (c .before .before .before .before .before .before .before .before .before .before .before .before .before .before .brought-a .ensures) (c .before .before .before .before .before .before .before .before .before .before .before .before .before .rotate .ensures) (c .before .before .before .before .before .before .before .before .before .before .lay .ensures) (c .before .before .before .before .before .before .lay2 .ensures) (c .before .before .lay3 .ensures) (c .encrypt-two .ensures)
+returns c =
+    let c₄ = c .before .before .before .before in
+    let c₈ = c₄ .before .before .before .before in
+    let r = c₈ .before .before .before .before .before in
+    let s = r .before .before .before in
+    let l = lengths s in
+    let la : length (r .rotate .result) ≡ 16 = search needs in
+    reply-by (s .args .k) (s .args .t2) (s .args .t3) (now (s .args .d)) (l .0) la (l .1) (r .before .brought-a .ensures) (r .rotate .ensures)
+    (c₈ .before .before .lay .ensures) (c₄ .before .before .lay2 .ensures) (c .before .before .lay3 .ensures) (c .encrypt-two .ensures)
 
 pub second-reply-spec : {M : Type 1} → statement M
 second-reply-spec =
