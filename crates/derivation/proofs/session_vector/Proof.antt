@@ -71,8 +71,11 @@ part-lay-end-3 c = search needs
 lay-requires-5 : tie.Need-lay-requires-5
 lay-requires-5 c κs = search needs
 
+long : (s : tie.Start) → (length (s .args .t1) ≡ 16) × (length (s .args .t2) ≡ 16)
+long s = (search needs, search needs)
+
 returns : tie.Need-returns
-returns c = let s = c .before .before .before .before .before .before .before .before .before .before .before .before .before .before .before .before .before .before .before .before .before .before .before .before in let la : length (s .args .t1) ≡ 16 = search needs in let lb : length (s .args .t2) ≡ 16 = search needs in vector-by (s .args .t1) (s .args .t2) la lb (c .before .before .before .before .before .before .before .before .before .before .before .before .before .before .before .before .before .before .before .before .before .before .before .mixed .ensures) (c .before .before .before .before .before .before .before .before .before .before .before .before .before .before .before .before .before .before .before .before .lay .ensures) (c .before .before .before .before .before .before .before .before .before .before .before .before .before .before .before .lay2 .ensures) (c .before .before .before .before .before .before .before .before .before .before .before .lay3 .ensures) (c .before .before .before .before .before .before .lay4 .ensures) (c .before .lay5 .ensures)
+returns c = let s = c .before .before .before .before .before .before .before .before .before .before .before .before .before .before .before .before .before .before .before .before .before .before .before .before in vector-by (s .args .t1) (s .args .t2) (long s .0) (long s .1) (c .before .before .before .before .before .before .before .before .before .before .before .before .before .before .before .before .before .before .before .before .before .before .before .mixed .ensures) (c .before .before .before .before .before .before .before .before .before .before .before .before .before .before .before .before .before .before .before .before .lay .ensures) (c .before .before .before .before .before .before .before .before .before .before .before .before .before .before .before .lay2 .ensures) (c .before .before .before .before .before .before .before .before .before .before .before .lay3 .ensures) (c .before .before .before .before .before .before .lay4 .ensures) (c .before .lay5 .ensures)
 
 pub session-vector-spec : {M : Type 1} → statement M
 session-vector-spec =

@@ -57,8 +57,11 @@ add-result c = search needs
 same-length : tie.Need-same-length
 same-length c = search needs
 
+long : (s : tie.Start) → length (s .args .t3) ≡ 8
+long s = search needs
+
 returns : tie.Need-returns
-returns c = let s = c .before .before .before .before .before .before .before .before .before .before .before .before .before .before .before .before .before .before .before .before .before .before .before .before .before .before .before in let a = s .args in let lm : length (a .t3) ≡ 8 = search needs in parts-by (now (a .frame)) (now (a .d)) (a .t3) (now (a .out)) (s .pre .0) lm (s .pre .2) (c .before .before .before .before .before .before .before .before .before .before .before .before .before .before .before .before .before .before .before .before .before .lay .ensures) (c .before .before .before .before .before .before .before .before .before .before .before .before .before .before .before .before .lay2 .ensures) (c .before .before .before .before .before .before .before .before .before .before .before .before .lay3 .ensures) (c .before .before .before .before .before .before .before .lay4 .ensures) (c .before .before .lay5 .ensures)
+returns c = let s = c .before .before .before .before .before .before .before .before .before .before .before .before .before .before .before .before .before .before .before .before .before .before .before .before .before .before .before in let a = s .args in parts-by (now (a .frame)) (now (a .d)) (a .t3) (now (a .out)) (s .pre .0) (long s) (s .pre .2) (c .before .before .before .before .before .before .before .before .before .before .before .before .before .before .before .before .before .before .before .before .before .lay .ensures) (c .before .before .before .before .before .before .before .before .before .before .before .before .before .before .before .before .lay2 .ensures) (c .before .before .before .before .before .before .before .before .before .before .before .before .lay3 .ensures) (c .before .before .before .before .before .before .before .lay4 .ensures) (c .before .before .lay5 .ensures)
 
 pub put-parts-spec : {M : Type 1} → statement M
 put-parts-spec =
