@@ -3,6 +3,8 @@
 //! | Line | Does | Prints |
 //! |---|---|---|
 //! | hexadecimal digits, an even number, at least two | a command | the reply, or `!5` |
+//! | `C` and an even number of digits, at least two | opens a chain with that frame | the reply, none if accepted, or `!5` |
+//! | `D` and an even number of digits, or none | a frame of file bytes | the reply, none before the last, or `!5` |
 //! | empty | a power-up | an empty line |
 //! | `P` and 46 or 208 digits | personalises a card | `!0`, or `!1` to `!3` beside the blank card |
 //! | `S` and 2 digits, or `S` | a session change, or no session | `!0` or `!4` |
@@ -33,7 +35,7 @@ pub struct Bench {
     card: Card,
     /// What is handed in with each event.
     inputs: Inputs,
-    /// The reply buffer lent to commands.
+    /// The reply buffer lent to commands and to the frames of chains.
     reply: Vec<u8>,
     /// The bytes of the line at hand.
     bytes: Vec<u8>,
@@ -117,18 +119,38 @@ impl Bench {
                 self.card = card;
                 put_outcome(outcome, out);
             }
+            // Before an odd number of digits, either letter is one more digit of
+            // a command.
+            [b'C', digits @ ..] if digits.len() % 2 == 0 => {
+                if self.decode(digits)?.is_empty() {
+                    return None;
+                }
+                let length = self.card.open_chain(&self.bytes, &mut self.reply);
+                self.put_reply(length, out);
+            }
+            [b'D', digits @ ..] if digits.len() % 2 == 0 => {
+                self.decode(digits)?;
+                let length = self.card.file_frame(&self.bytes, &mut self.reply);
+                self.put_reply(length, out);
+            }
             digits => {
                 self.decode(digits)?;
-                match self
+                let length = self
                     .card
-                    .command(&self.bytes, &self.inputs, &mut self.reply)
-                {
-                    Ok(length) => put_hex(&self.reply[..length], out),
-                    Err(refusal) => put_outcome(Err(refusal), out),
-                }
+                    .command(&self.bytes, &self.inputs, &mut self.reply);
+                self.put_reply(length, out);
             }
         }
         Some(())
+    }
+
+    /// Appends a reply of this length, or the bench refusal.
+    #[inline]
+    fn put_reply(&self, length: Result<usize, BenchRefusal>, out: &mut Vec<u8>) {
+        match length {
+            Ok(length) => put_hex(&self.reply[..length], out),
+            Err(refusal) => put_outcome(Err(refusal), out),
+        }
     }
 
     /// The bytes of an even number of hexadecimal digits of either case.
@@ -156,6 +178,7 @@ impl Bench {
             (books.value_pending, b'v'),
             (books.entry_pending, b'n'),
             (books.clear_pending, b'c'),
+            (books.chain_open, b'w'),
         ];
         if letters.iter().any(|&(is_pending, _)| is_pending) {
             out.extend(letters.iter().filter(|pair| pair.0).map(|pair| pair.1));
@@ -462,6 +485,45 @@ mod tests {
             &format!("{refused}{keys}1F\n90F50000010000\n9071000002020000"),
             "!1\n0000FFFF0001009100\n66E94BD4EF8A2C3B884CFA59CA342B2E91AF\n",
         );
+    }
+
+    #[test]
+    fn chains() {
+        check(
+            "C908D0000070000000003000000\nB\nD0102\nD03\nB\n90AD0000070000000004000000",
+            "\n100 100 0 0 0 0 w -\n\n9100\n100 100 0 0 0 0 - -\n010203009100\n",
+        );
+        // Digits of either case, and an answer only where there is a reply.
+        check(
+            "C908d0000071f1e000002000000\nDaB\nDCd\nD\nC908D0000071F1F000002000000",
+            "\n\n9100\n911C\n91BE\n",
+        );
+        check(
+            "S01\n90DC000005031E00000000\n908B00000801000000010000AA00\n\
+             C908D0000070000000003000000\nB\nD01\nS\nB\nD02",
+            "!0\n9100\n9100\n\n100 70 0 0 30 0 vnw 1\n\n!0\n100 70 0 0 30 0 vn -\n911C\n",
+        );
+        check(
+            "C908D0000070000000003000000\nR0101\nD\nC90\nD01\n90\nR0102\nB\nD010203",
+            "\n!0\n!5\n!5\n!5\n!5\n!0\n100 100 0 0 0 0 w -\n9100\n",
+        );
+    }
+
+    #[test]
+    fn lines_of_chains_that_are_none() {
+        // A letter before an odd number of digits is a digit itself.
+        check(
+            "C\nC9\nC90\nCG0\nC90 \nc90\nCC90\nD\nD0\nD00\nDG0\nD 00\nd00\nDD00",
+            "?\n6700\n6700\n?\n?\n?\n6700\n911C\n6700\n911C\n?\n?\n?\n6700\n",
+        );
+        for letter in ["C", "D"] {
+            let longest = format!("{letter}{}", "0".repeat(LONGEST_LINE - 2));
+            let status = if letter == "C" { "6700" } else { "911C" };
+            check(
+                &format!("{longest}\n{longest}0\n{longest}00"),
+                &format!("{status}\n6700\n?\n"),
+            );
+        }
     }
 
     #[test]

@@ -2,9 +2,14 @@
 //! that have landed, and from nothing else.
 //!
 //! Section names in quotes ("The files", "Events", ...) are those of the
-//! paper. A [`Card`] is changed in place by its three events: a command
-//! ([`Card::command`]), a session change ([`Card::change_session`]) and a
-//! power-up ([`Card::power_up`]).
+//! paper. A [`Card`] is changed in place by its events: a command
+//! ([`Card::command`]), a session change ([`Card::change_session`]), a power-up
+//! ([`Card::power_up`]), and the frames of a chain ([`Card::open_chain`],
+//! [`Card::file_frame`]).
+
+mod chain;
+
+pub use chain::{Chain, LONGEST_FILE_FRAME};
 
 use crate::aes::Block;
 use crate::messaging::{
@@ -13,7 +18,8 @@ use crate::messaging::{
 use std::collections::VecDeque;
 use std::ops::Range;
 
-/// The shortest reply buffer a command accepts ("Events", bench refusal 5).
+/// The shortest reply buffer that a command, or a frame of a chain, accepts
+/// ("Events", bench refusal 5).
 pub const REPLY_ROOM: usize = 258;
 /// The shortest and longest frame ("Frame and order of checks", place 1).
 pub const FRAME_LENGTHS: std::ops::RangeInclusive<usize> = 5..=261;
@@ -27,8 +33,8 @@ pub const LAST_KEY: u8 = 4;
 pub const KEYS: usize = LAST_KEY as usize + 1;
 /// The most bytes that a ReadData in MAC mode may read (request 06).
 pub const LONGEST_MAC_READ: usize = 248;
-/// The rows of the order of checks: thirteen places, and 5a and 9a.
-pub const ROWS: usize = 15;
+/// The rows of the order of checks: thirteen places, and 5a, 9c and 9a.
+pub const ROWS: usize = 16;
 
 /// One entry of the log.
 type Entry = [u8; ENTRY_SIZE];
@@ -63,8 +69,9 @@ impl BenchRefusal {
     }
 }
 
-/// Why a command is refused, in the order of the table of "Frame and order of
-/// checks" with the rows of request 06: one case for each of its fifteen rows.
+/// Why a command is refused, or a frame of a chain, in the order of the table of
+/// "Frame and order of checks" with the rows of requests 06 and 07: one case for
+/// each of its sixteen rows.
 #[derive(Clone, Copy, Debug, PartialEq, Eq, PartialOrd, Ord)]
 pub enum Refusal {
     /// Place 1: fewer than 5 or more than 261 bytes.
@@ -75,12 +82,14 @@ pub enum Refusal {
     Parameters,
     /// Place 4: Lc is 00h or disagrees with the length; or Le not 00h.
     LengthBytes,
-    /// Place 5: INS not in the command table; a second part without a first.
+    /// Place 5: INS not in the command table; a second part without a first; an
+    /// opening of another INS than WriteData; a file frame without a chain.
     Instruction,
-    /// Place 5a: a first part waits and this is not the second.
+    /// Place 5a: a first part waits and this is not the second; a command or an
+    /// opening while a chain is open.
     Interrupted,
     /// Place 6: data field of the wrong length; fewer than eight bytes where a
-    /// MAC comes off.
+    /// MAC comes off; a file frame of no bytes, too many, or more than are left.
     DataLength,
     /// Place 7: file number not in the file table.
     FileNumber,
@@ -89,7 +98,10 @@ pub enum Refusal {
     /// Place 9: no granting condition is free or equals the session key; a
     /// second part that fails.
     NotGranted,
-    /// Place 9a: wrong MAC; a base command or GetFileSettings at counter FFFFh.
+    /// Place 9c, right behind 9: a chain whose WriteData would be in MAC mode.
+    ChainInMacMode,
+    /// Place 9a: wrong MAC; a base command, an opening or GetFileSettings at
+    /// counter FFFFh.
     Integrity,
     /// Place 10: LimitedCredit while off; WriteRecord while a clear is pending.
     NotNow,
@@ -106,7 +118,7 @@ pub enum Refusal {
 impl Refusal {
     /// The place of each row in the order of checks.
     pub const PLACES: [&'static str; ROWS] = [
-        "1", "2", "3", "4", "5", "5a", "6", "7", "8", "9", "9a", "10", "11", "12", "13",
+        "1", "2", "3", "4", "5", "5a", "6", "7", "8", "9", "9c", "9a", "10", "11", "12", "13",
     ];
 
     /// The row in the order of checks, from 0 on.
@@ -129,7 +141,7 @@ impl Refusal {
             Self::Interrupted => 0x91CA,
             Self::DataLength => 0x917E,
             Self::FileNumber => 0x91F0,
-            Self::KindOrNever | Self::NotNow => 0x919D,
+            Self::KindOrNever | Self::ChainInMacMode | Self::NotNow => 0x919D,
             Self::NotGranted => 0x91AE,
             Self::Integrity => 0x911E,
             Self::BadParameter => 0x919E,
@@ -441,6 +453,8 @@ pub struct Books {
     pub entry_pending: bool,
     /// Whether a clear is pending.
     pub clear_pending: bool,
+    /// Whether a chain is open.
+    pub chain_open: bool,
     /// The session.
     pub session: Session,
 }
@@ -749,6 +763,12 @@ fn file_and_write(data: &[u8]) -> Result<(u8, usize, &[u8]), Refusal> {
     }
 }
 
+/// Puts the status behind the data of a reply: the length of both.
+fn put_status(status: u16, length: usize, reply: &mut [u8]) -> usize {
+    reply[length..length + 2].copy_from_slice(&status.to_be_bytes());
+    length + 2
+}
+
 /// Place 11: an amount of 0 or a negative one.
 fn check_amount(amount: i32) -> Result<(), Refusal> {
     if amount <= 0 {
@@ -791,6 +811,8 @@ pub struct Card {
     keys: [Block; KEYS],
     session: Session,
     pending: Pending,
+    /// The open chain, never beside a first part that waits.
+    chain: Option<Chain>,
 }
 
 impl Card {
@@ -820,6 +842,7 @@ impl Card {
             keys: ZERO_KEYS,
             session: Session::None,
             pending: Pending::default(),
+            chain: None,
         }
     }
 
@@ -860,26 +883,36 @@ impl Card {
     }
 
     /// A power-up: ends the session, or what stands in its place, and drops
-    /// pending work ("Events").
+    /// pending work and what is left of a chain ("Events").
     pub fn power_up(&mut self) {
         self.end();
     }
 
-    /// What a refusal and a power-up do: the session is ended, a first part and
-    /// pending work are dropped.
+    /// What a refusal and a power-up do: the session is ended, a first part,
+    /// pending work and what is left of a chain are dropped.
     fn end(&mut self) {
         self.session = Session::None;
         self.pending = Pending::default();
+        self.chain = None;
+    }
+
+    /// Lets a refusal have its effect.
+    fn settle<T>(&mut self, outcome: Result<T, Refusal>) -> Result<T, Refusal> {
+        if outcome.is_err() {
+            self.end();
+        }
+        outcome
     }
 
     /// A session change: a key 0 to 4, or none. It leaves pending work in place
-    /// ("Events") and drops a first part.
+    /// ("Events") and drops a first part and what is left of a chain.
     pub fn change_session(&mut self, key: Option<u8>) -> Result<(), BenchRefusal> {
         self.session = match key {
             None => Session::None,
             Some(key) if key <= LAST_KEY => Session::Bench(key),
             Some(_) => return Err(BenchRefusal::KeyNumber),
         };
+        self.chain = None;
         Ok(())
     }
 
@@ -898,8 +931,7 @@ impl Card {
             Ok(accepted) => (accepted.length, accepted.status.word()),
             Err(refusal) => (0, refusal.status()),
         };
-        reply[length..length + 2].copy_from_slice(&status.to_be_bytes());
-        Ok(length + 2)
+        Ok(put_status(status, length, reply))
     }
 
     /// A command without its status in the reply: what is put into `reply`, or
@@ -911,10 +943,13 @@ impl Card {
         reply: &mut [u8],
     ) -> Result<Accepted, Refusal> {
         let outcome = self.obey(frame, inputs, reply);
-        if outcome.is_err() {
-            self.end();
-        }
-        outcome
+        self.settle(outcome)
+    }
+
+    /// Whether something is unfinished that other commands break off: a first
+    /// part that waits, or an open chain.
+    fn is_unfinished(&self) -> bool {
+        matches!(self.session, Session::Waiting(_)) || self.chain.is_some()
     }
 
     /// All places, and the command's work. A refusal changes nothing here.
@@ -931,7 +966,7 @@ impl Card {
                 self.second_part(&first, data, reply)
             }
             (Asked::SecondPart, _) => Err(Refusal::Instruction),
-            (_, Session::Waiting(_)) => Err(Refusal::Interrupted),
+            _ if self.is_unfinished() => Err(Refusal::Interrupted),
             (Asked::FirstPart, _) => self.first_part(data, inputs, reply),
             (Asked::Base(instruction), _) => self.base_command(instruction, data, reply),
         }
@@ -1075,29 +1110,39 @@ impl Card {
         }
     }
 
-    /// Places 8 (second half), 9 and 9a.
-    fn check_granted(&self, order: &Order, file: FileName) -> Result<(), Refusal> {
-        match self.access(order.instruction, file) {
+    /// Places 8 (second half) and 9.
+    fn check_access(&self, instruction: Instruction, file: FileName) -> Result<(), Refusal> {
+        match self.access(instruction, file) {
             Access::Never => Err(Refusal::KindOrNever),
             Access::NotGranted => Err(Refusal::NotGranted),
-            Access::FreeOnly | Access::ByKey => self.check_integrity(order),
+            Access::FreeOnly | Access::ByKey => Ok(()),
         }
+    }
+
+    /// Places 8 (second half), 9 and 9a.
+    fn check_granted(&self, order: &Order, file: FileName) -> Result<(), Refusal> {
+        self.check_access(order.instruction, file)?;
+        self.check_integrity(order)
     }
 
     /// Place 9a, which only a session of AuthenticateEV2First asks: the end of
     /// the command counter, and the MAC of a command in MAC mode.
     fn check_integrity(&self, order: &Order) -> Result<(), Refusal> {
-        let session = match &self.session {
-            Session::Real(session) => session,
-            _ => return Ok(()),
-        };
-        if session.counter == u16::MAX {
-            return Err(Refusal::Integrity);
-        }
-        match order.mac {
-            Some(mac) if session.command_mac(order.instruction as u8, order.data) != mac => {
+        self.check_counter()?;
+        match (&self.session, order.mac) {
+            (Session::Real(session), Some(mac))
+                if session.command_mac(order.instruction as u8, order.data) != mac =>
+            {
                 Err(Refusal::Integrity)
             }
+            _ => Ok(()),
+        }
+    }
+
+    /// The first half of place 9a.
+    fn check_counter(&self) -> Result<(), Refusal> {
+        match &self.session {
+            Session::Real(session) if session.counter == u16::MAX => Err(Refusal::Integrity),
             _ => Ok(()),
         }
     }
@@ -1439,6 +1484,7 @@ impl Card {
             value_pending: self.pending.value.is_some(),
             entry_pending: matches!(self.pending.log, Some(LogWork::NewEntry(_))),
             clear_pending: matches!(self.pending.log, Some(LogWork::Clear)),
+            chain_open: self.chain.is_some(),
             session: self.session,
         }
     }
@@ -1486,6 +1532,8 @@ impl Card {
     }
 }
 
+#[cfg(test)]
+mod chain_tests;
 #[cfg(test)]
 mod session_tests;
 #[cfg(test)]

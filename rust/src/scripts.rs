@@ -4,12 +4,14 @@
 //! something to the card at hand, and so that the number of events of each
 //! sort is known ([`Tally`]).
 
+mod chains;
 mod commands;
 mod counting;
 mod ends;
 mod lines;
 mod sessions;
 
+pub use chains::FrameFault;
 pub use ends::ENDS;
 pub use sessions::SealFault;
 
@@ -18,6 +20,7 @@ use crate::frames::{file_place, hex_line, Script};
 use crate::model::{Accepted, Condition, Refusal, REPLY_ROOM};
 use crate::rng::Rng;
 use crate::tally::{LineSort, Tally};
+use chains::OverChain;
 
 /// What a script is about.
 #[derive(Clone, Copy, Debug, PartialEq, Eq)]
@@ -26,6 +29,8 @@ enum Theme {
     Base,
     /// Keys, modes and sessions of AuthenticateEV2First too.
     Sessions,
+    /// Those, and chains.
+    Chains,
 }
 
 /// What a stretch of a script is about.
@@ -47,6 +52,12 @@ struct Mood {
     seal_faults: u64,
     /// Percentage of commands under such a session on files of other kinds.
     other_kinds: u64,
+    /// Percentage of lines that open a chain.
+    chains: u64,
+    /// Percentage of openings that are wrong.
+    opening_faults: u64,
+    /// Percentage of lines in mid-chain that are no file frame that fits.
+    cuts: u64,
 }
 
 impl Mood {
@@ -60,6 +71,9 @@ impl Mood {
         breaks: 0,
         seal_faults: 0,
         other_kinds: 0,
+        chains: 0,
+        opening_faults: 0,
+        cuts: 0,
     };
 }
 
@@ -75,6 +89,8 @@ pub struct Writer {
     /// Accepted commands since the last commit, abort or refusal that made
     /// something pending.
     open: u64,
+    /// The last chain, while its file has not been read back.
+    over: Option<OverChain>,
     /// What all scripts so far contain.
     pub tally: Tally,
 }
@@ -90,6 +106,7 @@ impl Writer {
             lines: Vec::new(),
             answer: Vec::new(),
             open: 0,
+            over: None,
             tally: Tally::default(),
         }
     }
@@ -99,9 +116,10 @@ impl Writer {
         self.bench = Bench::new();
         self.theme = self
             .rng
-            .pick(&[Theme::Base, Theme::Sessions, Theme::Sessions]);
+            .pick(&[Theme::Base, Theme::Sessions, Theme::Sessions, Theme::Chains]);
         self.mood = Mood::CALM;
         self.open = 0;
+        self.over = None;
         if self.rng.percent(70) {
             self.personalise();
         }
@@ -132,7 +150,7 @@ impl Writer {
             [8, 1, 1, 1, 1],
         ]);
         let steady = self.rng.percent(match self.theme {
-            Theme::Base => 45,
+            Theme::Base | Theme::Chains => 45,
             Theme::Sessions => 65,
         });
         self.mood = if steady {
@@ -155,24 +173,43 @@ impl Writer {
                 ..Mood::CALM
             }
         };
-        if self.theme == Theme::Sessions {
+        if self.theme != Theme::Base {
             self.mood.real = self.rng.pick(&[20, 80, 100]);
+        }
+        if self.theme == Theme::Chains {
+            self.mood.chains = self.rng.pick(&[20, 50, 80]);
+            if steady {
+                self.mood.cuts = self.rng.pick(&[0, 0, 5]);
+            } else {
+                self.mood.opening_faults = self.rng.pick(&[5, 20, 60]);
+                self.mood.cuts = self.rng.pick(&[5, 20, 60]);
+            }
         }
     }
 
     /// One event or other line, and a `B` line after every third or so.
     fn step(&mut self) {
         let blank = self.is_blank();
-        if self.bench.room() < REPLY_ROOM && self.rng.percent(30) {
+        let has_room = self.bench.room() >= REPLY_ROOM;
+        if !has_room && self.rng.percent(30) {
             self.room();
-        } else if self.theme == Theme::Sessions && self.waiting().is_some() {
+        } else if self.theme != Theme::Base && self.waiting().is_some() {
             self.between_parts();
+        } else if self.chain().is_some() {
+            self.mid_chain();
+        } else if let Some(over) = self.over.filter(|_| has_room) {
+            self.over = None;
+            self.read_back(&over);
         } else if self.rng.below(1000) < if blank { 150 } else { 7 } {
             self.personalise();
         } else if self.rng.percent(self.mood.events) {
             self.event();
         } else if self.in_real_session() && self.rng.percent(self.mood.other_kinds) {
             self.other_kind();
+        } else if self.rng.percent(self.mood.chains) {
+            self.open_somehow();
+        } else if self.rng.percent(self.mood.opening_faults / 10) {
+            self.stray_file_frame();
         } else {
             self.command();
         }
@@ -185,7 +222,7 @@ impl Writer {
     fn event(&mut self) {
         let sorts = match self.theme {
             Theme::Base => 8,
-            Theme::Sessions => 12,
+            Theme::Sessions | Theme::Chains => 12,
         };
         match self.rng.below(sorts) {
             0 => self.line(Vec::new()),
@@ -209,12 +246,16 @@ impl Writer {
     /// Sends a line to the bench at the side and counts it.
     fn line(&mut self, line: Vec<u8>) {
         let waits = self.waiting().is_some();
+        let chain = self.chain();
         self.answer.clear();
         self.bench.line(&line, &mut self.answer);
         let sort = LineSort::of(&line, &self.answer);
         self.tally.lines += 1;
         self.tally.between[sort as usize] += u64::from(waits);
         self.count_line(sort, &line);
+        if let Some(chain) = chain {
+            self.count_in_mid_chain(sort, chain);
+        }
         self.lines.push(line);
     }
 
@@ -266,7 +307,7 @@ impl Writer {
             let outcome = self.outcome(&frame);
             if outcome == Err(Refusal::NotGranted) && self.rng.percent(self.restlessness()) {
                 self.useful_session(frame[5]);
-                if self.theme == Theme::Sessions && self.waiting().is_some() {
+                if self.theme != Theme::Base && self.waiting().is_some() {
                     return;
                 }
                 continue;
@@ -321,6 +362,7 @@ impl Writer {
 mod tests {
     use super::*;
     use crate::bench::answers;
+    use crate::frames::ins;
 
     #[test]
     fn scripts_are_deterministic() {
@@ -346,12 +388,17 @@ mod tests {
     #[test]
     fn scripts_meet_everything_often() {
         let mut writer = Writer::new(3);
-        while writer.tally.events() < 100_000 {
+        while writer.tally.events() < 130_000 {
             writer.script(3000);
         }
         let tally = &writer.tally;
         println!("{tally}");
-        assert!(tally.places.iter().all(|&count| count >= 100), "{tally}");
+        for (place, &count) in Refusal::PLACES.iter().zip(&tally.places) {
+            match *place {
+                "9c" => assert_eq!(count, 0, "{tally}"),
+                _ => assert!(count >= 100, "{tally}"),
+            }
+        }
         assert!(
             tally.zero_amounts.iter().all(|&count| count >= 50),
             "{tally}"
@@ -390,13 +437,20 @@ mod tests {
     #[test]
     fn scripts_meet_sessions_often() {
         let mut writer = Writer::new(4);
-        while writer.tally.events() < 100_000 {
+        while writer.tally.events() < 200_000 {
             writer.script(3000);
         }
         let tally = &writer.tally;
         println!("{tally}");
         assert!(tally.opened.iter().all(|&count| count >= 300), "{tally}");
-        assert!(tally.between.iter().all(|&count| count >= 10), "{tally}");
+        for (sort, &count) in LineSort::ALL.iter().zip(&tally.between) {
+            match sort {
+                LineSort::OpeningNoRoom | LineSort::FileFrameNoRoom => {
+                    assert!(count >= 3, "{tally}")
+                }
+                _ => assert!(count >= 10, "{tally}"),
+            }
+        }
         for count in [tally.inputs, tally.with_keys, tally.free_in_mac_mode] {
             assert!(count >= 300, "{tally}");
         }
@@ -418,9 +472,76 @@ mod tests {
     }
 
     #[test]
+    fn scripts_meet_chains_often() {
+        let mut writer = Writer::new(5);
+        while writer.tally.events() < 400_000 {
+            writer.script(3000);
+        }
+        let tally = &writer.tally;
+        println!("{tally}");
+        assert!(tally.chain_frames() >= 30_000, "{tally}");
+        for count in tally.chains.iter().flatten().chain(&tally.finished) {
+            assert!(*count >= 500, "{tally}");
+        }
+        for count in [tally.free_chains, tally.long_chains, tally.beside_work] {
+            assert!(count >= 300, "{tally}");
+        }
+        for (place, &count) in Refusal::PLACES.iter().zip(&tally.opening_places) {
+            match *place {
+                // At the end of the counter, which other scripts come to.
+                "9a" | "10" | "13" => assert_eq!(count, 0, "{tally}"),
+                _ => assert!(count >= 30, "{tally}"),
+            }
+        }
+        assert!(tally.delivered >= 8000, "{tally}");
+        assert!(
+            tally.frame_faults.iter().all(|&count| count >= 30),
+            "{tally}"
+        );
+        assert!(tally.mid_chain.iter().all(|&count| count >= 15), "{tally}");
+        for (sort, &count) in LineSort::ALL.iter().zip(&tally.torn) {
+            match sort {
+                LineSort::PowerUp
+                | LineSort::Session
+                | LineSort::Personalisation
+                | LineSort::Command
+                | LineSort::Opening
+                | LineSort::FileFrame => assert!(count >= 30, "{tally}"),
+                _ => assert_eq!(count, 0, "{tally}"),
+            }
+        }
+        for (&instruction, &count) in ins::ALL.iter().zip(&tally.interrupted) {
+            match instruction {
+                ins::SECOND_PART => assert_eq!(count, 0, "{tally}"),
+                _ => assert!(count >= 3, "{tally}"),
+            }
+        }
+        for (place, &count) in Refusal::PLACES.iter().zip(&tally.mid_chain_places) {
+            match *place {
+                "1" | "2" | "3" | "4" | "5" => assert!(count >= 3, "{tally}"),
+                _ => assert_eq!(count, 0, "{tally}"),
+            }
+        }
+        assert!(
+            tally.read_back.iter().all(|&count| count >= 2000),
+            "{tally}"
+        );
+    }
+
+    #[test]
     fn ends_are_where_they_should_be() {
         // The answer to the first line behind counter FFFFh.
-        for (end, answer) in [(1, "911E"), (4, "911E"), (14, "91AE"), (16, "!0")] {
+        for (end, answer) in [
+            (1, "911E"),
+            (4, "911E"),
+            (14, "91AE"),
+            (16, "!0"),
+            (17, "911E"),
+            (18, "911E"),
+            (19, "919D"),
+            (20, "91AE"),
+            (21, "911C"),
+        ] {
             let mut writer = Writer::new(1);
             let script = writer.end_script(1, end);
             let out = answers(&script.bytes());
@@ -431,7 +552,8 @@ mod tests {
                 .expect("the counter comes to its end");
             assert_eq!(lines[last + 1], answer.as_bytes(), "{end}");
             assert_eq!(writer.tally.highest_counter, u16::MAX);
-            assert_eq!(writer.tally.ended, u64::from(answer == "911E"));
+            let openings = writer.tally.opening_places[Refusal::Integrity.row()];
+            assert_eq!(writer.tally.ended + openings, u64::from(answer == "911E"));
             assert!(lines[lines.len() - 2].ends_with(b" 2:1"), "{end}");
             assert_eq!(script.bytes(), Writer::new(2).end_script(1, end).bytes());
         }

@@ -2,7 +2,7 @@
 
 use crate::frames::ins;
 use crate::model::{Refusal, KEYS, ROWS};
-use crate::scripts::SealFault;
+use crate::scripts::{FrameFault, SealFault};
 use std::fmt::{self, Display, Formatter};
 
 /// What the scripts written so far contain.
@@ -74,6 +74,41 @@ pub struct Tally {
     pub highest_counter: u16,
     /// Commands refused at its end.
     pub ended: u64,
+    /// Openings of chains that reached the card.
+    pub openings: u64,
+    /// File frames that reached the card.
+    pub file_frames: u64,
+    /// Openings and file frames refused by the bench for want of room.
+    pub chains_no_room: [u64; 2],
+    /// Chains opened under no session, one of the bench and one of
+    /// AuthenticateEV2First, each on the files 00h, 04h and 1Fh.
+    pub chains: [[u64; 3]; 3],
+    /// Those under the last on a file in MAC mode: a free condition alone grants
+    /// them.
+    pub free_chains: u64,
+    /// Those of more bytes than a WriteData has room for.
+    pub long_chains: u64,
+    /// Refused openings, by the place of the order of checks.
+    pub opening_places: [u64; ROWS],
+    /// Accepted file frames but the last ones.
+    pub delivered: u64,
+    /// Last ones, by the session as above.
+    pub finished: [u64; 3],
+    /// Those beside pending work.
+    pub beside_work: u64,
+    /// What was wrong with file frames.
+    pub frame_faults: [u64; FrameFault::ALL.len()],
+    /// Lines while a chain is open, by their sort.
+    pub mid_chain: [u64; LineSort::ALL.len()],
+    /// Of them, those that dropped the rest of a chain behind a delivered frame.
+    pub torn: [u64; LineSort::ALL.len()],
+    /// Commands refused with 91CA there, in the order of the command table.
+    pub interrupted: [u64; 14],
+    /// Commands refused there before that, by the place.
+    pub mid_chain_places: [u64; ROWS],
+    /// Reads of a file after a chain that was finished, and after one that was
+    /// cut.
+    pub read_back: [u64; 2],
 }
 
 /// The sorts of lines.
@@ -83,6 +118,8 @@ pub enum LineSort {
     PowerUp,
     /// `S` with or without a key.
     Session,
+    /// `S` with a key that the bench refused.
+    NoKey,
     /// `R`.
     Room,
     /// `P`.
@@ -97,13 +134,22 @@ pub enum LineSort {
     NoRoom,
     /// Any other command.
     Command,
+    /// An opening of a chain that the bench refused.
+    OpeningNoRoom,
+    /// Any other.
+    Opening,
+    /// A file frame that the bench refused.
+    FileFrameNoRoom,
+    /// Any other.
+    FileFrame,
 }
 
 impl LineSort {
     /// All sorts.
-    pub const ALL: [Self; 9] = [
+    pub const ALL: [Self; 14] = [
         Self::PowerUp,
         Self::Session,
+        Self::NoKey,
         Self::Room,
         Self::Personalisation,
         Self::Books,
@@ -111,19 +157,33 @@ impl LineSort {
         Self::Other,
         Self::NoRoom,
         Self::Command,
+        Self::OpeningNoRoom,
+        Self::Opening,
+        Self::FileFrameNoRoom,
+        Self::FileFrame,
     ];
 
     /// The sort of a line with this answer.
     pub fn of(line: &[u8], answer: &[u8]) -> Self {
+        let refused = answer.starts_with(b"!");
         match line {
             _ if answer == b"?\n" => Self::Other,
             [] => Self::PowerUp,
             b"B" => Self::Books,
+            [b'S', ..] if answer != b"!0\n" => Self::NoKey,
             [b'S', ..] => Self::Session,
             [b'R', ..] => Self::Room,
             [b'P', ..] => Self::Personalisation,
             [b'N', ..] => Self::Inputs,
-            _ if answer.starts_with(b"!") => Self::NoRoom,
+            [b'C', digits @ ..] if digits.len() % 2 == 0 => match refused {
+                true => Self::OpeningNoRoom,
+                false => Self::Opening,
+            },
+            [b'D', digits @ ..] if digits.len() % 2 == 0 => match refused {
+                true => Self::FileFrameNoRoom,
+                false => Self::FileFrame,
+            },
+            _ if refused => Self::NoRoom,
             _ => Self::Command,
         }
     }
@@ -131,9 +191,15 @@ impl LineSort {
 
 impl Tally {
     /// The events of the paper's section "Events": commands, session changes
-    /// and power-ups. Personalisations and the other lines don't count.
+    /// and power-ups, and the frames of chains. Personalisations and the other
+    /// lines don't count.
     pub fn events(&self) -> u64 {
-        self.commands + self.no_room + self.sessions + self.power_ups
+        self.commands + self.no_room + self.sessions + self.power_ups + self.chain_frames()
+    }
+
+    /// Openings and file frames.
+    pub fn chain_frames(&self) -> u64 {
+        self.openings + self.file_frames + self.chains_no_room.iter().sum::<u64>()
     }
 }
 
@@ -152,6 +218,46 @@ fn write_counts<Name: Display, const COUNTS: usize>(
 }
 
 impl Tally {
+    /// What chains brought.
+    fn fmt_chains(&self, f: &mut Formatter) -> fmt::Result {
+        writeln!(
+            f,
+            "openings {}, file frames {}, without room {:?}, chains by session and file {:?}, \
+             free in MAC mode {}, above 248 bytes {}",
+            self.openings,
+            self.file_frames,
+            self.chains_no_room,
+            self.chains,
+            self.free_chains,
+            self.long_chains
+        )?;
+        write_counts(
+            f,
+            "openings refused by place",
+            Refusal::PLACES,
+            self.opening_places,
+        )?;
+        writeln!(
+            f,
+            "file frames delivered {}, last ones by session {:?}, of them beside pending work {}",
+            self.delivered, self.finished, self.beside_work
+        )?;
+        let faults = FrameFault::ALL.map(|fault| format!("{fault:?}"));
+        write_counts(f, "wrong file frames", faults, self.frame_faults)?;
+        let sorts = || LineSort::ALL.map(|sort| format!("{sort:?}"));
+        write_counts(f, "in mid-chain", sorts(), self.mid_chain)?;
+        write_counts(f, "chains torn", sorts(), self.torn)?;
+        let instructions = ins::ALL.map(|byte| format!("{byte:02X}"));
+        write_counts(f, "91CA in mid-chain", instructions, self.interrupted)?;
+        let places = self.mid_chain_places;
+        write_counts(f, "before it by place", Refusal::PLACES, places)?;
+        write!(
+            f,
+            "read back after a chain that was finished and one that was cut {:?}",
+            self.read_back
+        )
+    }
+
     /// What sessions of AuthenticateEV2First brought.
     fn fmt_sessions(&self, f: &mut Formatter) -> fmt::Result {
         let instructions = || ins::ALL.map(|byte| format!("{byte:02X}"));
@@ -167,7 +273,7 @@ impl Tally {
         write_counts(f, "in session, with a MAC", instructions(), maced)?;
         let faults = SealFault::ALL.map(|fault| format!("{fault:?}"));
         write_counts(f, "wrong MACs", faults, self.seal_faults)?;
-        write!(
+        writeln!(
             f,
             "free in MAC mode {}, MACed reads of 247 to 250 bytes {:?}, to the end {}, \
              highest counter {}, refused at its end {}",
@@ -218,6 +324,7 @@ impl Display for Tally {
             "amounts of 0 {:?}, entries pushed out {}, Debit sums held {}, long transactions {}",
             self.zero_amounts, self.pushed_out, self.held_sums, self.long_transactions
         )?;
-        self.fmt_sessions(f)
+        self.fmt_sessions(f)?;
+        self.fmt_chains(f)
     }
 }

@@ -212,6 +212,38 @@ mod tests {
         );
     }
 
+    /// A chain carries no MAC, and counts as one command where it is finished.
+    #[test]
+    fn chains_pass_as_they_are_and_count_once() {
+        let mut lines = session_script(&[frame(ins::GET_FILE_SETTINGS, &[0x00])]);
+        lines.push(b"C908D0000070000000003000000".to_vec());
+        lines.push(b"D0102".to_vec());
+        lines.push(b"D03".to_vec());
+        let mut bench = Bench::new();
+        for line in &lines {
+            bench.line(line, &mut Vec::new());
+        }
+        let last = sealed(bench.card(), ins::GET_FILE_SETTINGS, &[0x03]);
+        lines.push(hex_line(b"", &last));
+        let mut sealed = with_seals(&lines);
+        let seals: Vec<Seal> = sealed.iter().map(|line| line.1).collect();
+        assert_eq!(
+            seals[2..],
+            [Seal::Mac, Seal::None, Seal::None, Seal::None, Seal::Mac]
+        );
+        assert_eq!(
+            statuses(&lines),
+            ["91AF", "9100", "9100", "", "", "9100", "9100"]
+        );
+        assert_eq!(resealed(&sealed), lines);
+        // Without the chain, the last command is the second that is counted.
+        sealed.drain(3..6);
+        assert_eq!(
+            statuses(&resealed(&sealed)),
+            ["91AF", "9100", "9100", "9100"]
+        );
+    }
+
     #[test]
     fn a_wrong_mac_stays_wrong() {
         let mut lines = session_script(&[

@@ -20,6 +20,9 @@ pub enum SpeedKind {
     Logs,
     /// Commands refused at each of the thirteen places.
     Refusals,
+    /// Chains of two file frames of 120 bytes: an opening and both, three events
+    /// a chain.
+    Chains,
     /// As `Values`, each with a MAC.
     MacValues,
     /// ReadData of 248 bytes, each with a MAC.
@@ -28,11 +31,12 @@ pub enum SpeedKind {
 
 impl SpeedKind {
     /// All kinds.
-    pub const ALL: [Self; 6] = [
+    pub const ALL: [Self; 7] = [
         Self::Reads,
         Self::Values,
         Self::Logs,
         Self::Refusals,
+        Self::Chains,
         Self::MacValues,
         Self::MacReads,
     ];
@@ -44,6 +48,7 @@ impl SpeedKind {
             Self::Values => "values",
             Self::Logs => "logs",
             Self::Refusals => "refusals",
+            Self::Chains => "chains",
             Self::MacValues => "mac-values",
             Self::MacReads => "mac-reads",
         }
@@ -54,13 +59,14 @@ impl SpeedKind {
         matches!(self, Self::MacValues | Self::MacReads)
     }
 
-    /// The lines of a script of this kind where one without MACs has so many:
-    /// fewer the more blocks of AES a line takes, some 4 or 19.
-    pub fn lines(self, without_macs: usize) -> usize {
+    /// The lines of a script of this kind where one of short commands without
+    /// MACs has so many: fewer where lines are long, and the more blocks of AES a
+    /// line takes, some 4 or 19.
+    pub fn lines(self, short: usize) -> usize {
         match self {
-            Self::MacValues => (without_macs / 10).max(20),
-            Self::MacReads => (without_macs / 50).max(20),
-            _ => without_macs,
+            Self::Chains | Self::MacValues => (short / 10).max(20),
+            Self::MacReads => (short / 50).max(20),
+            _ => short,
         }
     }
 }
@@ -89,9 +95,12 @@ const MAC_KEY: Block = [
 /// has room for.
 const SESSION_COMMANDS: u16 = 60_000;
 
-/// A script for timing. Every line is a command, but for some lines at its
-/// start that prepare the card, one `N` before each authentication, and one `B`
-/// at its end.
+/// Bytes of a file frame.
+const CHAIN_FRAME: usize = 120;
+
+/// A script for timing. Every line is a command or a frame of a chain, but for
+/// some lines at its start that prepare the card, one `N` before each
+/// authentication, and one `B` at its end.
 pub fn speed_script(kind: SpeedKind, lines: usize, seed: u64) -> Script {
     let mut script = if kind.has_macs() {
         mac_script(kind, lines, seed)
@@ -124,13 +133,13 @@ fn plain_script(kind: SpeedKind, lines: usize, seed: u64) -> Vec<Vec<u8>> {
     }
     let mut at = 0;
     while script.len() + 1 < lines {
-        let frame = match kind {
-            SpeedKind::Values => speed_value(&mut rng, at),
-            SpeedKind::Logs => speed_log(&mut rng, at),
-            SpeedKind::Refusals => speed_refusal(&mut rng, at),
-            _ => speed_read(&mut rng),
-        };
-        script.push(hex_line(b"", &frame));
+        script.push(match kind {
+            SpeedKind::Values => hex_line(b"", &speed_value(&mut rng, at)),
+            SpeedKind::Logs => hex_line(b"", &speed_log(&mut rng, at)),
+            SpeedKind::Refusals => hex_line(b"", &speed_refusal(&mut rng, at)),
+            SpeedKind::Chains => speed_chain(&mut rng, at),
+            _ => hex_line(b"", &speed_read(&mut rng)),
+        });
         at += 1;
     }
     script
@@ -241,6 +250,17 @@ fn speed_log(rng: &mut Rng, at: usize) -> Vec<u8> {
     }
 }
 
+/// The line of an opening, then two of file frames, by turns.
+fn speed_chain(rng: &mut Rng, at: usize) -> Vec<u8> {
+    if at % 3 > 0 {
+        return hex_line(b"D", &rng.some_bytes(CHAIN_FRAME));
+    }
+    let file = rng.pick(&[0x00, 0x04]);
+    let length = 2 * CHAIN_FRAME as u64;
+    let offset = rng.below(256 - length + 1);
+    hex_line(b"C", &read_frame(ins::WRITE_DATA, file, offset, length))
+}
+
 /// The thirteen places by turns; place 10 takes a clear before it.
 fn speed_refusal(rng: &mut Rng, at: usize) -> Vec<u8> {
     let amount = rng.below(1000) as u32;
@@ -279,11 +299,25 @@ mod tests {
             let accepted = commands.filter(|line| line.ends_with(b"9100")).count();
             match kind {
                 SpeedKind::Refusals => assert!(accepted * 14 <= 1998 + 14),
+                // The last frame of a chain alone has a reply.
+                SpeedKind::Chains => assert_eq!(accepted, 1998 / 3),
                 // A session change, an N line and a first part are among them.
                 SpeedKind::MacValues | SpeedKind::MacReads => assert_eq!(accepted, 1995),
                 _ => assert_eq!(accepted, 1998, "{kind:?}"),
             }
         }
+    }
+
+    #[test]
+    fn chains_of_speed_scripts_are_opened_and_delivered() {
+        let script = speed_script(SpeedKind::Chains, 2000, 1);
+        let out = answers(&script.bytes());
+        let lines: Vec<&[u8]> = out.split(|&byte| byte == b'\n').collect();
+        for chain in lines[1..1999].chunks(3) {
+            assert_eq!(chain, [&b""[..], b"", b"9100"]);
+        }
+        let frames = script.lines.iter().filter(|line| line[0] == b'D');
+        assert_eq!(frames.filter(|line| line.len() == 241).count(), 1332);
     }
 
     #[test]

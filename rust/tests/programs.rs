@@ -145,7 +145,7 @@ fn speed_times_every_kind() {
         .unwrap();
     let text = text(&output);
     assert!(output.status.success(), "{text}");
-    assert_eq!(text.lines().count(), 7, "{text}");
+    assert_eq!(text.lines().count(), 8, "{text}");
 }
 
 #[test]

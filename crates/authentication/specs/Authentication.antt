@@ -4,6 +4,7 @@ use mathlib.Core.List.{List}
 use lib.ListN.{replicate}
 use Rattle.keys.specs.declared.Keys.{Keys}
 use Rattle.keys.specs.Keys.{keyAt}
+use Rattle.chains.specs.Chain.{unchained}
 use Rattle.channel.specs.declared.Channel.{Channel}
 use Rattle.channel.specs.declared.Inputs.{Inputs}
 use Rattle.channel.specs.declared.Stage.the-variants.{Waiting, Real}
@@ -14,7 +15,7 @@ use Rattle.handshake.specs.Handshake.{capsOf, firstReply, broughtA, secondReply
 
 -- the first part ends the old session; the card's random number is RndB
 unfoldable pub begun : Inputs → List ℕ → Channel
-begun u d = record { stage = Waiting (keyIn d); secret = u .random; ti = u .ti; caps = capsOf d }
+begun u d = record { stage = Waiting (keyIn d); secret = u .random; ti = u .ti; caps = capsOf d; chain = unchained }
 
 unfoldable pub firstShown : Keys → Inputs → List ℕ → List ℕ
 firstShown ks u d = firstReply (keyAt ks (keyIn d)) (u .random)
@@ -31,6 +32,7 @@ opened ks c d =
       secret = macKey (partKey ks c) (broughtA (partKey ks c) d) (c .secret);
       ti = c .ti;
       caps = replicate 6 0;
+      chain = unchained;
     }
 
 unfoldable pub secondShown : Keys → Channel → List ℕ → List ℕ

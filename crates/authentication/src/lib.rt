@@ -1,4 +1,5 @@
 // AuthenticateEV2First on the card: what each part leaves of the channel, and the data of its reply.
+use chains::Chain;
 use channel::Channel;
 use channel::Inputs;
 use channel::Stage;
@@ -20,6 +21,7 @@ pub fn begin(inputs: Inputs, d: &[u8]) -> Channel
         secret,
         ti,
         caps,
+        chain: Chain::none(),
     }
 }
 
@@ -45,6 +47,7 @@ pub fn open(keys: Keys, channel: Channel, d: &[u8]) -> Channel
         secret,
         ti,
         caps: [0; 6],
+        chain: Chain::none(),
     }
 }
 

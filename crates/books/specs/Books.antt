@@ -6,6 +6,8 @@ use lib.Dec.{ltb}
 use Rattle.tables.specs.Choice.{pick}
 use Rattle.purse.specs.declared.Purse.{Purse}
 use Rattle.logbook.specs.declared.Log.{Log}
+use Rattle.chains.specs.declared.Chain.{Chain}
+use Rattle.chains.specs.Chain.{isOpen}
 use Rattle.channel.specs.declared.Stage.{Stage}
 use Rattle.channel.specs.declared.Stage.the-variants.{Closed, Bench, Waiting, Real}
 use Rattle.decimal.specs.Decimal.{decimal, signedDecimal}
@@ -13,9 +15,14 @@ use Rattle.decimal.specs.Decimal.{decimal, signedDecimal}
 abbrev pub field : List ℕ → List ℕ
 field x = x ++ 0x20 ∷ []
 
--- what is pending: value, new entry, clear
-unfoldable pub pendingLetters : Bool → Bool → Bool → List ℕ
-pendingLetters v n c = pick v (0x76 ∷ []) [] ++ pick n (0x6E ∷ []) [] ++ pick c (0x63 ∷ []) [] ++ pick (not (v || n || c)) (0x2D ∷ []) []
+-- what is pending: value, new entry, clear, and behind them a write whose chain is open
+unfoldable pub pendingLetters : Bool → Bool → Bool → Bool → List ℕ
+pendingLetters v n c w =
+    pick v (0x76 ∷ []) []
+    ++ pick n (0x6E ∷ []) []
+    ++ pick c (0x63 ∷ []) []
+    ++ pick w (0x77 ∷ []) []
+    ++ pick (not (v || n || c || w)) (0x2D ∷ []) []
 
 -- the session: `-`, the bench's `3`, a first part that waits `3?`, a real one at counter 17 `3:17`
 unfoldable pub stageText : Stage → List ℕ
@@ -32,12 +39,12 @@ figuresText p =
     ++ field (decimal (p .left))
     ++ field (decimal (p .debits))
 
-unfoldable pub marksText : Bool → Log → Stage → List ℕ
-marksText moved l g = field (decimal (l .count)) ++ field (pendingLetters moved (l .adds) (l .clears)) ++ stageText g
+unfoldable pub marksText : Bool → Log → Stage → Chain → List ℕ
+marksText moved l g k = field (decimal (l .count)) ++ field (pendingLetters moved (l .adds) (l .clears) (isOpen k)) ++ stageText g
 
-unfoldable pub booksText : Purse → Log → Stage → List ℕ
-booksText p l g = figuresText p ++ marksText (p .moved) l g
+unfoldable pub booksText : Purse → Log → Stage → Chain → List ℕ
+booksText p l g k = figuresText p ++ marksText (p .moved) l g k
 
 -- where there is room for any books, else nothing
-unfoldable pub booksIn : ℕ → Purse → Log → Stage → List ℕ
-booksIn room p l g = pick (ltb room 96) [] (booksText p l g)
+unfoldable pub booksIn : ℕ → Purse → Log → Stage → Chain → List ℕ
+booksIn room p l g k = pick (ltb room 96) [] (booksText p l g k)

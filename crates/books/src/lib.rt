@@ -1,4 +1,5 @@
 // The books of a card in characters, in lent slices: eight fields with single spaces.
+use chains::Chain;
 use channel::Stage;
 use logbook::Log;
 use purse::Purse;
@@ -69,16 +70,24 @@ fn add_letter(flag: bool, letter: u8, at: usize, answer: &mut [u8]) -> usize
 }
 
 // What is pending, as letters, or `-`.
-fn add_pending(value: bool, entry: bool, clear: bool, at: usize, answer: &mut [u8]) -> usize
-    requires { ⌜ at + 5 ≤ length (now answer) ⌝ }
-    ensures { λ r. ⌜ Adds (field (pendingLetters value entry clear)) (now (answer .entry)) at (now (answer .exit)) r ⌝ }
-    ensures { λ r. ⌜ r ≤ at + 5 ⌝ }
+fn add_pending(
+    value: bool,
+    entry: bool,
+    clear: bool,
+    write: bool,
+    at: usize,
+    answer: &mut [u8],
+) -> usize
+    requires { ⌜ at + 6 ≤ length (now answer) ⌝ }
+    ensures { λ r. ⌜ Adds (field (pendingLetters value entry clear write)) (now (answer .entry)) at (now (answer .exit)) r ⌝ }
+    ensures { λ r. ⌜ r ≤ at + 6 ⌝ }
 {
     let a = add_letter(value, b'v', at, answer);
     let b = add_letter(entry, b'n', a, answer);
     let c = add_letter(clear, b'c', b, answer);
-    let d = add_letter(!(value | entry | clear), b'-', c, answer);
-    add_char(b' ', d, answer)
+    let d = add_letter(write, b'w', c, answer);
+    let e = add_letter(!(value | entry | clear | write), b'-', d, answer);
+    add_char(b' ', e, answer)
 }
 
 // A real session's key and counter.
@@ -117,22 +126,29 @@ fn put_figures(purse: Purse, answer: &mut [u8]) -> usize
 }
 
 // The number of entries, what is pending, the session.
-fn add_marks(moved: bool, log: Log, stage: Stage, at: usize, answer: &mut [u8]) -> usize
+fn add_marks(
+    moved: bool,
+    log: Log,
+    stage: Stage,
+    chain: Chain,
+    at: usize,
+    answer: &mut [u8],
+) -> usize
     requires { ⌜ (at ≤ 57) × (96 ≤ length (now answer)) ⌝ }
-    ensures { λ r. ⌜ Adds (marksText moved log stage) (now (answer .entry)) at (now (answer .exit)) r ⌝ }
+    ensures { λ r. ⌜ Adds (marksText moved log stage chain) (now (answer .entry)) at (now (answer .exit)) r ⌝ }
 {
     let a = add_decimal(log.count as u32, b' ', at, answer);
-    let b = add_pending(moved, log.adds, log.clears, a, answer);
+    let b = add_pending(moved, log.adds, log.clears, chain.left != 0, a, answer);
     add_stage(stage, b, answer)
 }
 
 // Lays the books over the front of answer and answers the number of characters; nothing and 0 where answer has fewer than ROOM places.
-pub fn put_books(purse: Purse, log: Log, stage: Stage, answer: &mut [u8]) -> usize
-    ensures { λ r. ⌜ Shows (booksIn (length (now (answer .entry))) purse log stage) (now (answer .entry)) (now (answer .exit)) r ⌝ }
+pub fn put_books(purse: Purse, log: Log, stage: Stage, chain: Chain, answer: &mut [u8]) -> usize
+    ensures { λ r. ⌜ Shows (booksIn (length (now (answer .entry))) purse log stage chain) (now (answer .entry)) (now (answer .exit)) r ⌝ }
 {
     if answer.len() < ROOM {
         return 0;
     }
     let a = put_figures(purse, answer);
-    add_marks(purse.moved, log, stage, a, answer)
+    add_marks(purse.moved, log, stage, chain, a, answer)
 }

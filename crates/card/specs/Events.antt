@@ -1,9 +1,10 @@
--- The events: personalisation, a command, a session change, a power-up.
+-- The events: personalisation, a command, the opening of a chain, a frame of file bytes, a session change, a power-up.
 use Prim.Native.Nat.{ℕ}
 use mathlib.Core.List.{List, [], _++_}
 use mathlib.Core.Bool.{Bool, not, false}
 use lib.Dec.{ltb, eqb}
 use lib.IntN.{ℤ, pos}
+use lib.ListN.{length}
 use Rattle.tables.specs.Choice.{pick}
 use Rattle.wire.specs.Bytes.{word}
 use Rattle.datafiles.specs.Files as files
@@ -14,9 +15,10 @@ use Rattle.access.specs.declared.Session.{Session}
 use Rattle.access.specs.Rights.{sessionSound}
 use Rattle.keys.specs.declared.Keys.{Keys}
 use Rattle.keys.specs.Keys as keys
+use Rattle.chains.specs.Chain.{announced, nextPlace, completes}
 use Rattle.channel.specs.declared.Channel.{Channel}
 use Rattle.channel.specs.declared.Inputs.{Inputs}
-use Rattle.channel.specs.Channel.{stageOf, counterOf, counted, bare, closed}
+use Rattle.channel.specs.Channel.{stageOf, counterOf, counted, bare, closed, chained, advanced}
 use Rattle.sealing.specs.Sealing.{sealOf}
 use Rattle.authentication.specs.Authentication.{begun, firstShown, opened, secondShown}
 use Rattle.columns.specs.Table.{authenticateFirst, authenticateSecond}
@@ -25,7 +27,7 @@ use Rattle.settings.specs.declared.Settings.{Settings}
 use Rattle.settings.specs.Settings.{alike}
 use Rattle.rows.specs.State.{State}
 use Rattle.modes.specs.Modes.{plainOf}
-use Rattle.rows.specs.Rows.{ok, macedIn, statusOf}
+use Rattle.rows.specs.Rows.{ok, macedIn, statusOf, openingStatus, bytesStatus}
 use Rattle.standing.specs.Rules.{orderRefusal}
 use Rattle.effects.specs.Effects.{purseAfter, journalAfter, filesAfter}
 use Rattle.replies.specs.Replies.{shownOf}
@@ -68,7 +70,7 @@ macBehind m c x = pick m (sealOf (c .secret) 0x00 (counterOf (c .stage)) (c .ti)
 unfoldable pub acceptedStatus : ℕ → ℕ
 acceptedStatus i = pick (eqb i authenticateFirst) 0x91AF ok
 
--- a refusal, and a power-up: session ended, pending work dropped
+-- a refusal, and a power-up: session ended, pending work and an open chain dropped
 unfoldable pub ended : State → State
 ended s =
     record {
@@ -103,9 +105,13 @@ acceptedPlain m s u i d =
 unfoldable pub accepted : State → Inputs → ℕ → List ℕ → Played
 accepted s u i x = acceptedPlain (macedIn (s .core) i x) s u i (plainOf (macedIn (s .core) i x) x)
 
--- by its status
+-- p where the status is ok, else a refusal with that status
+abbrev pub judged : ℕ → State → Played → Played
+judged status s p = pick (eqb status ok) p (refused s status)
+
+-- a command by its status
 abbrev pub playedBy : ℕ → State → Inputs → List ℕ → Played
-playedBy status s u f = pick (eqb status ok) (accepted s u (insOf f) (dataOf f)) (refused s status)
+playedBy status s u f = judged status s (accepted s u (insOf f) (dataOf f))
 
 -- refused with the status of the first reason that applies, accepted where none does
 unfoldable pub played : State → Inputs → List ℕ → Played
@@ -119,28 +125,69 @@ laidInto c p = record { card = put c (p .state); refusal = 0; out = p .out }
 abbrev pub replyRoom : ℕ
 replyRoom = 258
 
--- a reply buffer of room bytes, and what is played where there is no bench refusal
+-- the bench refusal of an event with a reply buffer of room bytes, or 0
+unfoldable pub benchRefusal : Bool → ℕ → ℕ
+benchRefusal broken room = pick (ltb room replyRoom) 5 (pick broken 6 0)
+
+-- what is played where there is none
 abbrev pub benched : Card → ℕ → Played → Outcome
-benched c room p = pick (ltb room replyRoom) (bench c 5) (pick (broken c) (bench c 6) (laidInto c p))
+benched c room p = pick (eqb (benchRefusal (broken c) room) 0) (laidInto c p) (bench c (benchRefusal (broken c) room))
 
 -- the frame f, the bench's inputs u, and a reply buffer of room bytes
 unfoldable pub commanded : Card → List ℕ → Inputs → ℕ → Outcome
 commanded c f u room = benched c room (played (view c) u f)
 
--- ---- a session change leaves pending work in place, and nothing of the session before it
+-- ---- a chain: a WriteData whose bytes come behind it, in frames
 
-unfoldable pub withSession : State → Session → State
-withSession s k =
+-- another channel, and all else as before
+abbrev pub withChannel : State → Channel → State
+withChannel s c =
     record {
       core = record {
         settings = s .core .settings;
         keys = s .core .keys;
         purse = s .core .purse;
         journal = s .core .journal;
-        channel = bare (stageOf k);
+        channel = c;
       };
       files = s .files;
     }
+
+-- an accepted opening with the data field d replies nothing, and changes nothing but that a chain is open
+unfoldable pub opening : State → List ℕ → Played
+opening s d = record { state = withChannel s (chained (s .core .channel) (announced d)); out = [] }
+
+-- the frame f as an opening
+unfoldable pub openingPlayed : State → List ℕ → Played
+openingPlayed s f = judged (openingStatus (s .core) f) s (opening s (dataOf f))
+
+unfoldable pub chainOpened : Card → List ℕ → ℕ → Outcome
+chainOpened c f room = benched c room (openingPlayed (view c) f)
+
+-- an accepted frame b of file bytes: they are in the file at once, behind those that came before; the last frame replies 9100,
+-- any other nothing
+unfoldable pub delivered : State → List ℕ → Played
+delivered s b =
+    let k = s .core .channel .chain in
+    record {
+      state = record {
+        core = withChannel s (advanced (s .core .channel) (length b)) .core;
+        files = files.written (s .files) (k .file) (nextPlace k) b;
+      };
+      out = pick (completes k (length b)) (word ok) [];
+    }
+
+-- b as a frame of file bytes
+unfoldable pub bytesPlayed : State → List ℕ → Played
+bytesPlayed s b = judged (bytesStatus (s .core .channel .chain) b) s (delivered s b)
+
+unfoldable pub bytesSent : Card → List ℕ → ℕ → Outcome
+bytesSent c b room = benched c room (bytesPlayed (view c) b)
+
+-- ---- a session change leaves pending work in place, and nothing of the session before it, nor of a chain
+
+unfoldable pub withSession : State → Session → State
+withSession s k = withChannel s (bare (stageOf k))
 
 unfoldable pub sessionChanged : Card → Session → Outcome
 sessionChanged c k =

@@ -3,8 +3,8 @@ use Prim.Native.Nat.{ℕ, _+_, _≤_, _<_}
 use mathlib.Core.Bool.{Bool, true, false, not}
 use mathlib.Core.List.{List, [], _++_}
 use mathlib.Core.Path.{_≡_, refl, sym, ap, _∙_}
-use borrow.Author.Tests.{lt-ltb, le-ltb, eq-eqb, ne-eqb}
-use lib.Dec.{eqb}
+use borrow.Author.Tests.{ltb-false, le-ltb, eq-eqb, ne-eqb, eqb-false}
+use lib.Dec.{eqb, ltb}
 use lib.IntN.{ℤ}
 use lib.ListN.{length}
 use native.Mathlib.Omega.{arith}
@@ -17,12 +17,15 @@ use Rattle.logbook.specs.Laws as logbook
 use Rattle.logbook.specs.FitLaws.{fit-view}
 use Rattle.purse.specs.declared.Purse.{Purse}
 use Rattle.datafiles.specs.declared.Files.{Files}
+use Rattle.datafiles.specs.Files as files
 use Rattle.access.specs.declared.Session.{Session}
 use Rattle.access.specs.Rights.{sessionSound}
 use Rattle.keys.specs.declared.Keys.{Keys}
+use Rattle.chains.specs.declared.Chain.{Chain}
+use Rattle.chains.specs.Chain.{announced, nextPlace, completes}
 use Rattle.channel.specs.declared.Channel.{Channel}
 use Rattle.channel.specs.declared.Inputs.{Inputs}
-use Rattle.channel.specs.Channel.{stageOf, counted, bare}
+use Rattle.channel.specs.Channel.{stageOf, counted, bare, chained, advanced}
 use Rattle.authentication.specs.Authentication.{begun}
 use Rattle.authentication.specs.Guarded.{openedIn, opens-whole}
 use Rattle.columns.specs.Table.{writeData, authenticateFirst, authenticateSecond, shows}
@@ -30,7 +33,7 @@ use Rattle.frames.specs.Frame.{insOf, dataOf}
 use Rattle.settings.specs.declared.Settings.{Settings}
 use Rattle.rows.specs.State.{State}
 use Rattle.modes.specs.Modes.{plainOf}
-use Rattle.rows.specs.Rows.{wrongLength, outside, ok, macedIn, statusOf, commandStatus}
+use Rattle.rows.specs.Rows.{wrongLength, outside, ok, macedIn, statusOf, commandStatus, openingStatus, bytesStatus}
 use Rattle.rows.specs.Laws.{command-ok, inside, long-enough, first-plain, second-plain, second-length}
 use Rattle.effects.specs.Effects.{purseAfter, journalAfter, filesAfter}
 use Rattle.effects.specs.Guarded.{purseIn}
@@ -41,7 +44,7 @@ use Rattle.card.specs.View.{view, put, broken, onChannel}
 use Rattle.standing.specs.Parts.{logBroken, log-few, parted}
 use Rattle.card.specs.Outcome.{Outcome, replyOf, Answered, bench}
 use Rattle.standing.specs.Rules.{orderRefusal}
-use Rattle.card.specs.Events.{channelAfter, changed, shown, macBehind, acceptedStatus, ended, refused, acceptedPlain, accepted, played, laidInto, replyRoom, commanded, withSession, sessionChanged, poweredUp, issued, blank, personalised}
+use Rattle.card.specs.Events.{channelAfter, changed, shown, macBehind, acceptedStatus, ended, Played, refused, acceptedPlain, accepted, judged, played, laidInto, replyRoom, benchRefusal, benched, commanded, opening, openingPlayed, chainOpened, delivered, bytesPlayed, bytesSent, withSession, sessionChanged, poweredUp, issued, blank, personalised}
 use Rattle.card.specs.Accepted.{Granted, baseShown, purse-inside, shown-accepted, shown-small, base-channel, base-accepted, shows-changes-nothing, quiet-shows-nothing}
 use Rattle.card.specs.Sealing.{Sealed, sealed-shows}
 
@@ -52,7 +55,7 @@ put-view c = ap (λ (l : Log). record { settings = c .settings; keys = c .keys; 
 
 -- a card that breaks no rule has a log that breaks none
 pub log-unbroken : (c : Card) → broken c ≡ false → logBroken (c .log) ≡ false
-log-unbroken c e = parted (c .settings) (c .purse) (c .log) (c .channel .stage) e .1 .1 .1 .0
+log-unbroken c e = parted (c .settings) (c .purse) (c .log) (c .channel .stage) (c .channel .chain) e .1 .1 .1 .0
 
 -- ---- replies
 
@@ -147,44 +150,75 @@ shown-answers c m u i d b t ek s z =
     let v = sealed-shows (counted (c .channel)) m (baseShown (view c) i d) b s z in
     answered-as _ _ _ _ _ (ap (laidInto c) (base-accepted i (h .3) (h .4) m (view c) u d)) (shows-answers c (changed (view c) u i d) _ b (ek ∙ on-counted c u i d t) v)
 
+-- ---- an event with a reply buffer, which plays p where there is no bench refusal
+
+module _ (c : Card) (room : ℕ) {n : ℕ} (e : n ≡ benchRefusal (broken c) room) where
+  pub refused-bench : (p : Played) → (n ≡ 0 → ⊥) → bench c n ≡ benched c room p
+  refused-bench p h = rw e (sym (passed _ _ (ne-eqb _ _ (λ q. h (e ∙ q)))))
+
+  pub no-bench : n ≡ 0 → (replyRoom ≤ room) × (broken c ≡ false)
+  unfolding benchRefusal
+  no-bench h = by (ltb room replyRoom) refl (broken c) refl (sym e ∙ h)
+    where
+      by : (s : Bool) → ltb room replyRoom ≡ s → (b : Bool) → broken c ≡ b → pick {A = ℕ} s 5 (pick b 6 0) ≡ 0 → (replyRoom ≤ room) × (broken c ≡ false)
+      by true es b eb q = unfold pick in absurd (eqb-false 5 0 refl q)
+      by false es true eb q = unfold pick in absurd (eqb-false 6 0 refl q)
+      by false es false eb q = (ltb-false _ _ es, eb)
+
+module _ (c : Card) (room : ℕ) (p : Played) (h : replyRoom ≤ room) (b : broken c ≡ false) where
+  unrefused : benchRefusal (broken c) room ≡ 0
+  unfolding benchRefusal
+  unrefused = passed _ _ (le-ltb _ _ h) ∙ passed _ _ b
+
+  pub bench-plays : laidInto c p ≡ benched c room p
+  bench-plays = sym (picked _ _ (eq-eqb _ _ unrefused))
+
+-- refused or not by its status
+module _ (c : Card) (s : ℕ) (p : Played) where
+  pub judged-refused : (s ≡ ok → ⊥) → laidInto c (refused (view c) s) ≡ laidInto c (judged s (view c) p)
+  judged-refused n = ap (laidInto c) (sym (passed _ _ (ne-eqb _ _ n)))
+
+  pub judged-accepted : s ≡ ok → laidInto c p ≡ laidInto c (judged s (view c) p)
+  judged-accepted e = ap (laidInto c) (sym (picked _ _ (eq-eqb _ _ e)))
+
+-- a refusal, laid into the card k, with room for a reply
+pub refused-answers : (c : Card) {k : Card} (s : ℕ) (b : List ℕ) {b₂ : List ℕ} {n : ℕ} → replyRoom ≤ length b → k ≡ put c (ended (view c))
+    → b₂ ≡ laidIn b 0 (word s) → n ≡ 0 + 2 → Answered (laidInto c (refused (view c) s)) b b₂ (reply k 0 n)
+unfolding refused
+refused-answers c s b h ek e q = shows-answers c (ended (view c)) (word s) b ek (shows-whole (word s) b _ 2 (length-word s) (omega arith) e .0, q ∙ sym (length-word s))
+
 -- ---- a command
 
 module _ (c : Card) (f : List ℕ) (u : Inputs) where
   pub plays-refused : (s : ℕ) → s ≡ statusOf (view c .core) f → (s ≡ ok → ⊥) → laidInto c (refused (view c) s) ≡ laidInto c (played (view c) u f)
   unfolding played
-  plays-refused s e n = ap (laidInto c) (rw e (sym (passed _ _ (ne-eqb _ _ (λ q. n (e ∙ q))))))
+  plays-refused s e n = rw e (judged-refused c (statusOf (view c .core) f) _ (λ q. n (e ∙ q)))
 
   pub plays-accepted : statusOf (view c .core) f ≡ ok → laidInto c (accepted (view c) u (insOf f) (dataOf f)) ≡ laidInto c (played (view c) u f)
   unfolding played
-  plays-accepted e = ap (laidInto c) (sym (picked _ _ (eq-eqb _ _ e)))
+  plays-accepted e = judged-accepted c _ _ e
 
-  module _ (room : ℕ) where
-    pub command-short : room < replyRoom → bench c 5 ≡ commanded c f u room
-    unfolding commanded
-    command-short h = sym (picked _ _ (lt-ltb _ _ h))
+  pub command-bench : (room : ℕ) {n : ℕ} → n ≡ benchRefusal (broken c) room → (n ≡ 0 → ⊥) → bench c n ≡ commanded c f u room
+  unfolding commanded
+  command-bench room e n = refused-bench c room e _ n
 
-    pub command-broken : replyRoom ≤ room → broken c ≡ true → bench c 6 ≡ commanded c f u room
-    unfolding commanded
-    command-broken h b = sym (passed _ _ (le-ltb _ _ h) ∙ picked _ _ b)
-
-    pub command-plays : replyRoom ≤ room → broken c ≡ false → laidInto c (played (view c) u f) ≡ commanded c f u room
-    unfolding commanded
-    command-plays h b = sym (passed _ _ (le-ltb _ _ h) ∙ passed _ _ b)
+  pub command-plays : (room : ℕ) → replyRoom ≤ room → broken c ≡ false → laidInto c (played (view c) u f) ≡ commanded c f u room
+  unfolding commanded
+  command-plays room h b = bench-plays c room _ h b
 
   -- with room for a reply, on a card that breaks no rule; k is the card after
   module _ (b : List ℕ) (h : replyRoom ≤ length b) (w : broken c ≡ false) where
     pub command-refused : {b₂ : List ℕ} {k : Card} {n : ℕ} (s : ℕ) → s ≡ statusOf (view c .core) f → (s ≡ ok → ⊥) → k ≡ put c (ended (view c))
         → b₂ ≡ laidIn b 0 (word s) → n ≡ 0 + 2 → Answered (commanded c f u (length b)) b b₂ (reply k 0 n)
-    unfolding refused
-    command-refused s es n ek e q = answered-as _ _ _ _ _ (plays-refused s es n ∙ command-plays _ h w) (shows-answers c (ended (view c)) (word s) b ek (shows-whole (word s) b _ 2 (length-word s) (omega arith) e .0, q ∙ sym (length-word s)))
+    command-refused s es n ek e q = answered-as _ _ _ _ _ (plays-refused s es n ∙ command-plays _ h w) (refused-answers c s b h ek e q)
 
     -- m, i and d are whether it has a MAC, its command and its data field without it, as the code has read them
     module _ (s : statusOf (view c .core) f ≡ ok) {m : Bool} {i : ℕ} {x d : List ℕ} (em : m ≡ macedIn (view c .core) (insOf f) (dataOf f)) (ei : i ≡ insOf f) (ex : x ≡ dataOf f) (ed : d ≡ plainOf m x) where
-      taken : commandStatus (view c .core) (insOf f) (dataOf f) ≡ ok
-      taken = command-ok (view c .core) f s
+      taken : commandStatus false (view c .core) (insOf f) (dataOf f) ≡ ok
+      taken = command-ok false (view c .core) f s
 
       pub command-granted : Granted (view c .core) m i d
-      command-granted = rw (ed, ex, ei, em) (inside (view c .core) (insOf f) (dataOf f) taken)
+      command-granted = rw (ed, ex, ei, em) (inside false (view c .core) (insOf f) (dataOf f) taken)
 
       pub command-accepts : {b₂ : List ℕ} {r : Reply} → Answered (laidInto c (acceptedPlain m (view c) u i d)) b b₂ r → Answered (commanded c f u (length b)) b b₂ r
       unfolding accepted
@@ -201,8 +235,8 @@ module _ (c : Card) (f : List ℕ) (u : Inputs) where
 
       pub opens-long : i ≡ authenticateSecond → length d ≡ 32
       opens-long q =
-          let l : wrongLength i d ≡ false = rw (ed, ex, ei, em) (long-enough (view c .core) (insOf f) (dataOf f) taken .0) in
-          second-length d (rw q at l)
+          let l : wrongLength false i d ≡ false = rw (ed, ex, ei, em) (long-enough false (view c .core) (insOf f) (dataOf f) taken .0) in
+          second-length false d (rw q at l)
 
       pub command-part : {b₂ : List ℕ} {r : Reply} {j : ℕ} → i ≡ j → m ≡ false → Answered (laidInto c (acceptedPlain false (view c) u j d)) b b₂ r → Answered (commanded c f u (length b)) b b₂ r
       command-part ej e y = command-accepts (rw (e, ej) y)
@@ -217,6 +251,61 @@ module _ (c : Card) (f : List ℕ) (u : Inputs) where
           let q = base-accepted i n₁ n₂ m (view c) u d in
           let v = sealed-shows (counted (c .channel)) m [] b (shows-none b) z in
           command-accepts (answered-as _ _ _ _ _ (ap (laidInto c) q) (shows-answers c _ _ b ek (rw y v)))
+
+-- ---- a chain
+
+pub opening-bench : (c : Card) (f : List ℕ) (room : ℕ) {n : ℕ} → n ≡ benchRefusal (broken c) room → (n ≡ 0 → ⊥) → bench c n ≡ chainOpened c f room
+unfolding chainOpened
+opening-bench c f room e n = refused-bench c room e _ n
+
+pub bytes-bench : (c : Card) (x : List ℕ) (room : ℕ) {n : ℕ} → n ≡ benchRefusal (broken c) room → (n ≡ 0 → ⊥) → bench c n ≡ bytesSent c x room
+unfolding bytesSent
+bytes-bench c x room e n = refused-bench c room e _ n
+
+-- an opening f; x is its data field, and g the channel after it
+module _ (c : Card) (f : List ℕ) (b : List ℕ) (h : replyRoom ≤ length b) (w : broken c ≡ false) where
+  pub opening-refused : {b₂ : List ℕ} {r : Reply} (s : ℕ) → s ≡ openingStatus (view c .core) f → (s ≡ ok → ⊥) → Answered (laidInto c (refused (view c) s)) b b₂ r
+      → Answered (chainOpened c f (length b)) b b₂ r
+  unfolding chainOpened openingPlayed
+  opening-refused s e n y = answered-as _ _ _ _ _ (rw e (judged-refused c (openingStatus (view c .core) f) _ (λ q. n (e ∙ q))) ∙ bench-plays c (length b) _ h w) y
+
+  pub opening-taken : {x : List ℕ} {k : Card} {n : Chain} {g : Channel} → openingStatus (view c .core) f ≡ ok → x ≡ dataOf f → n ≡ announced x → g ≡ chained (c .channel) n
+      → k ≡ onChannel c g → Answered (chainOpened c f (length b)) b b (reply k 0 0)
+  unfolding chainOpened openingPlayed opening
+  opening-taken s ex en eg ek =
+      let q = on-channel c (opening (view c) (dataOf f) .state) (chained (c .channel) (announced (dataOf f))) (unfold opening view in refl) in
+      answered-as _ _ _ _ _ (judged-accepted c _ (opening (view c) (dataOf f)) s ∙ bench-plays c (length b) _ h w)
+      (shows-answers c (opening (view c) (dataOf f) .state) [] b (ek ∙ rw (eg, en, ex) q) (shows-none b))
+
+-- a frame x of file bytes
+module _ (c : Card) (x : List ℕ) (b : List ℕ) (h : replyRoom ≤ length b) (w : broken c ≡ false) where
+  pub bytes-answered : {b₂ : List ℕ} {r : Reply} {s : ℕ} → s ≡ bytesStatus (c .channel .chain) x → s ≡ ok → Answered (laidInto c (delivered (view c) x)) b b₂ r
+      → Answered (bytesSent c x (length b)) b b₂ r
+  unfolding bytesSent bytesPlayed view
+  bytes-answered e s y = answered-as _ _ _ _ _ (judged-accepted c _ _ (sym e ∙ s) ∙ bench-plays c (length b) _ h w) y
+
+  pub bytes-refused : {b₂ : List ℕ} {r : Reply} (s : ℕ) → s ≡ bytesStatus (c .channel .chain) x → (s ≡ ok → ⊥) → Answered (laidInto c (refused (view c) s)) b b₂ r
+      → Answered (bytesSent c x (length b)) b b₂ r
+  unfolding bytesSent bytesPlayed view
+  bytes-refused s e n y = answered-as _ _ _ _ _ (rw e (judged-refused c (bytesStatus (c .channel .chain) x) _ (λ q. n (e ∙ q))) ∙ bench-plays c (length b) _ h w) y
+
+-- what is laid behind its last bytes, and behind others
+pub closes : {last : Bool} (b : List ℕ) {b₂ : List ℕ} {n : ℕ} → replyRoom ≤ length b → last ≡ true → b₂ ≡ laidIn b 0 (word ok) → n ≡ 0 + 2 → Shows (pick last (word ok) []) b b₂ n
+unfolding pick
+closes b h t e q = rw t (shows-whole (word ok) b _ 2 (length-word ok) (omega arith) e .0, q ∙ sym (length-word ok))
+
+pub closes-not : {last : Bool} (b : List ℕ) → last ≡ false → Shows (pick last (word ok) []) b b 0
+unfolding pick
+closes-not b t = rw t (shows-none b)
+
+-- its bytes are in the file f, and g is the channel after it
+pub delivers : (c : Card) (x b : List ℕ) {b₂ : List ℕ} {n at : ℕ} {f : Files} {g : Channel} {last : Bool} → at ≡ nextPlace (c .channel .chain)
+    → f ≡ files.written (c .files) (c .channel .chain .file) at x → g ≡ advanced (c .channel) (length x) → last ≡ completes (c .channel .chain) (length x)
+    → Shows (pick last (word ok) []) b b₂ n
+    → Answered (laidInto c (delivered (view c) x)) b b₂ (reply (record { settings = c .settings; keys = c .keys; files = f; purse = c .purse; log = c .log; channel = g }) 0 n)
+unfolding delivered
+delivers c x b ea ef eg el s =
+    shows-answers c (delivered (view c) x .state) _ b (unfold put delivered view in rw (ef, ea, eg, logbook.put-view (c .log)) refl) (unfold view in rw el at s)
 
 -- ---- the other events
 

@@ -23,7 +23,7 @@ put c s =
 
 -- the card breaks a standing rule
 abbrev pub broken : Card → Bool
-broken c = brokenBy (c .settings) (c .purse) (c .log) (c .channel .stage)
+broken c = brokenBy (c .settings) (c .purse) (c .log) (c .channel .stage) (c .channel .chain)
 
 -- the card with another channel
 unfoldable pub onChannel : Card → Channel → Card

@@ -1,7 +1,8 @@
-// The card: personalisation, and the three events command, session change and power-up.
+// The card: personalisation, and the events command, opening of a chain, frame of file bytes, session change and power-up.
 mod issue;
 
 use access::Session;
+use chains::Chain;
 use channel::Channel;
 use channel::Inputs;
 use channel::Stage;
@@ -16,11 +17,14 @@ ghost use mathlib.Core.Bool.{true, false};
 ghost use Prim.Native.Nat.{_+_, _≤_};
 ghost use lib.ListN.{length};
 ghost use Rattle.tables.specs.Choice.{pick};
-ghost use Rattle.wire.specs.Bytes.{laidIn, word};
+ghost use mathlib.Core.List.{[]};
+ghost use Rattle.wire.specs.Bytes.{laidIn, word, Shows};
+ghost use Rattle.rows.specs.Rows.{ok};
+ghost use Rattle.standing.specs.Rules.{brokenBy};
 ghost use Rattle.columns.specs.Table.{shows, authenticateFirst, authenticateSecond};
 ghost use Rattle.card.specs.View.{view, put, broken, onChannel};
 ghost use Rattle.card.specs.Outcome.{replyOf, Answered};
-ghost use Rattle.card.specs.Events.{ended, acceptedPlain, laidInto, replyRoom, commanded, sessionChanged, poweredUp, personalised};
+ghost use Rattle.card.specs.Events.{ended, refused, acceptedPlain, laidInto, replyRoom, benchRefusal, commanded, chainOpened, delivered, bytesSent, sessionChanged, poweredUp, personalised};
 ghost use Rattle.card.specs.Accepted.{Granted};
 ghost use Rattle.card.specs.Sealing.{Sealed};
 
@@ -79,7 +83,27 @@ impl Card {
 
     pub const NOTHING_PENDING: u16 = checks::NOTHING_PENDING;
 
-    // The card with its session ended and pending work dropped.
+    // The bench refusal of an event with a reply buffer of this room, or 0, on a card of these parts.
+    fn bench_refusal(
+        settings: Settings,
+        purse: Purse,
+        log: Log,
+        stage: Stage,
+        chain: Chain,
+        room: usize,
+    ) -> u8
+        ensures { λ r. ⌜ r ≡ benchRefusal (brokenBy settings purse log stage chain) room ⌝ }
+    {
+        if room < Card::REPLY_ROOM {
+            return 5;
+        }
+        if standing::breaks(settings, purse, log, stage, chain) {
+            return 6;
+        }
+        0
+    }
+
+    // The card with its session ended, and pending work and an open chain dropped.
     fn ended(self) -> Card
         ensures { λ r. ⌜ r ≡ put self (ended (view self)) ⌝ }
     {
@@ -227,21 +251,16 @@ impl Card {
         let log = self.log;
         let channel = self.channel;
         let stage = channel.stage;
-        if reply.len() < Card::REPLY_ROOM {
+        let chain = channel.chain;
+        let bench = Card::bench_refusal(settings, purse, log, stage, chain, reply.len());
+        if bench != 0 {
             return Reply {
                 card: self,
-                refusal: 5,
+                refusal: bench,
                 len: 0,
             };
         }
-        if standing::breaks(settings, purse, log, stage) {
-            return Reply {
-                card: self,
-                refusal: 6,
-                len: 0,
-            };
-        }
-        let checked = checks::check(settings, keys, purse, log, channel, frame);
+        let checked = checks::check(false, settings, keys, purse, log, channel, frame);
         let status = checked.status;
         if status != Card::OK {
             let len = Card::close(status, 0, reply);
@@ -303,6 +322,119 @@ impl Card {
         }
     }
 
+    // A refusal with this status.
+    fn refuse(self, status: u16, reply: &mut [u8]) -> Reply
+        requires { ⌜ replyRoom ≤ length (now reply) ⌝ }
+        ensures { λ r. ⌜ Answered (laidInto self (refused (view self) status)) (now (reply .entry)) (now (reply .exit)) r ⌝ }
+    {
+        let len = Card::close(status, 0, reply);
+        let card = self.ended();
+        Reply {
+            card,
+            refusal: 0,
+            len,
+        }
+    }
+
+    // The opening of a chain: a WriteData without its bytes and its MAC.
+    pub fn open_chain(self, frame: &[u8], reply: &mut [u8]) -> Reply
+        ensures { λ r. ⌜ Answered (chainOpened self (now (frame .entry)) (length (now (reply .entry)))) (now (reply .entry)) (now (reply .exit)) r ⌝ }
+    {
+        let settings = self.settings;
+        let keys = self.keys;
+        let purse = self.purse;
+        let log = self.log;
+        let channel = self.channel;
+        let stage = channel.stage;
+        let chain = channel.chain;
+        let bench = Card::bench_refusal(settings, purse, log, stage, chain, reply.len());
+        if bench != 0 {
+            return Reply {
+                card: self,
+                refusal: bench,
+                len: 0,
+            };
+        }
+        let checked = checks::check(true, settings, keys, purse, log, channel, frame);
+        let status = checked.status;
+        if status != Card::OK {
+            return self.refuse(status, reply);
+        }
+        let next = channel.chained(Chain::announced(frames::data(frame)));
+        let card = self.on_channel(next);
+        Reply {
+            card,
+            refusal: 0,
+            len: 0,
+        }
+    }
+
+    // Lays 9100 behind the last frame of a chain, nothing behind another, and answers the reply's length.
+    fn close_last(last: bool, reply: &mut [u8]) -> usize
+        requires { ⌜ replyRoom ≤ length (now reply) ⌝ }
+        ensures { λ r. ⌜ Shows (pick last (word ok) []) (now (reply .entry)) (now (reply .exit)) r ⌝ }
+    {
+        if last {
+            return Card::close(Card::OK, 0, reply);
+        }
+        0
+    }
+
+    // An accepted frame of file bytes.
+    fn deliver(self, bytes: &[u8], reply: &mut [u8]) -> Reply
+        requires { ⌜ replyRoom ≤ length (now reply) ⌝ }
+        ensures { λ r. ⌜ Answered (laidInto self (delivered (view self) (now (bytes .entry)))) (now (reply .entry)) (now (reply .exit)) r ⌝ }
+    {
+        let settings = self.settings;
+        let keys = self.keys;
+        let files = self.files;
+        let purse = self.purse;
+        let log = self.log;
+        let channel = self.channel;
+        let chain = channel.chain;
+        let n = bytes.len();
+        let last = chain.left as usize <= n;
+        let len = Card::close_last(last, reply);
+        let card = Card {
+            settings,
+            keys,
+            files: files.write(chain.file, chain.next_place(), bytes),
+            purse,
+            log,
+            channel: channel.advanced(n),
+        };
+        Reply {
+            card,
+            refusal: 0,
+            len,
+        }
+    }
+
+    // A frame of file bytes.
+    pub fn file_frame(self, bytes: &[u8], reply: &mut [u8]) -> Reply
+        ensures { λ r. ⌜ Answered (bytesSent self (now (bytes .entry)) (length (now (reply .entry)))) (now (reply .entry)) (now (reply .exit)) r ⌝ }
+    {
+        let settings = self.settings;
+        let purse = self.purse;
+        let log = self.log;
+        let channel = self.channel;
+        let stage = channel.stage;
+        let chain = channel.chain;
+        let bench = Card::bench_refusal(settings, purse, log, stage, chain, reply.len());
+        if bench != 0 {
+            return Reply {
+                card: self,
+                refusal: bench,
+                len: 0,
+            };
+        }
+        let status = checks::check_bytes(chain, bytes);
+        if status != Card::OK {
+            return self.refuse(status, reply);
+        }
+        self.deliver(bytes, reply)
+    }
+
     // A session change: a key 0 to 4, or none.
     pub fn change_session(self, session: Session) -> Reply
         ensures { λ r. ⌜ r ≡ replyOf (sessionChanged self session) ⌝ }
@@ -319,7 +451,8 @@ impl Card {
         let log = self.log;
         let channel = self.channel;
         let stage = channel.stage;
-        if standing::breaks(settings, purse, log, stage) {
+        let chain = channel.chain;
+        if standing::breaks(settings, purse, log, stage, chain) {
             return Reply {
                 card: self,
                 refusal: 6,
@@ -343,7 +476,8 @@ impl Card {
         let log = self.log;
         let channel = self.channel;
         let stage = channel.stage;
-        if standing::breaks(settings, purse, log, stage) {
+        let chain = channel.chain;
+        if standing::breaks(settings, purse, log, stage, chain) {
             return Reply {
                 card: self,
                 refusal: 6,

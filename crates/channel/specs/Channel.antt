@@ -3,8 +3,11 @@ use Prim.Native.Nat.{ℕ, _+_, _%_}
 use mathlib.Core.Bool.{Bool, true, false}
 use lib.Dec.{leb}
 use lib.ListN.{replicate}
+use Rattle.tables.specs.Choice.{pick}
 use Rattle.access.specs.declared.Session.{Session}
 use Rattle.access.specs.declared.Session.the-variants.{Nobody, Key}
+use Rattle.chains.specs.declared.Chain.{Chain}
+use Rattle.chains.specs.Chain.{unchained, completes, shortened}
 use Rattle.channel.specs.declared.Stage.{Stage}
 use Rattle.channel.specs.declared.Stage.the-variants.{Closed, Bench, Waiting, Real}
 use Rattle.channel.specs.declared.Channel.{Channel}
@@ -64,12 +67,23 @@ countedUp (Waiting k) = Waiting k
 countedUp (Real k n) = Real k ((n + 1) % 65536)
 
 unfoldable pub counted : Channel → Channel
-counted c = record { stage = countedUp (c .stage); secret = c .secret; ti = c .ti; caps = c .caps }
+counted c = record { stage = countedUp (c .stage); secret = c .secret; ti = c .ti; caps = c .caps; chain = c .chain }
 
--- the stage with zero bytes beside it
+-- the stage with zero bytes beside it, and no chain
 unfoldable pub bare : Stage → Channel
-bare g = record { stage = g; secret = replicate 16 0; ti = replicate 4 0; caps = replicate 6 0 }
+bare g = record { stage = g; secret = replicate 16 0; ti = replicate 4 0; caps = replicate 6 0; chain = unchained }
 
--- no session, and nothing that one left
+-- no session, no chain, and nothing that one left
 abbrev pub closed : Channel
 closed = bare Closed
+
+-- ---- a chain
+
+unfoldable pub chained : Channel → Chain → Channel
+chained c k = record { stage = c .stage; secret = c .secret; ti = c .ti; caps = c .caps; chain = k }
+
+-- n bytes of the open chain have come: the last of them is the whole command's, which moves a real session's counter
+unfoldable pub advanced : Channel → ℕ → Channel
+advanced c n =
+    pick (completes (c .chain) n) (counted (chained c (shortened (c .chain) n)))
+    (chained c (shortened (c .chain) n))

@@ -1,8 +1,9 @@
 // Between terminal and card: how far a session has come, and what both sides then know.
 use access::Session;
+use chains::Chain;
 ghost use mathlib.Core.Path.{_≡_};
 ghost use Rattle.channel.specs.Named.{named, acts};
-ghost use Rattle.channel.specs.Channel.{stageOf, actingOf, stageSound, stageKey, counterOf, countedUp, bare, counted};
+ghost use Rattle.channel.specs.Channel.{stageOf, actingOf, stageSound, isWaiting, stageKey, counterOf, countedUp, bare, counted, chained, advanced};
 
 // No session; one of the bench, with its key; a first part of AuthenticateEV2First that waits for its second, with its key;
 // a real session, with its key and command counter.
@@ -14,12 +15,14 @@ pub enum Stage {
 }
 
 // The stage, and its bytes: RndB while a first part waits, the session MAC key in a real session; the transaction
-// identifier in both; PCDcap2 while a first part waits. Bytes that a stage does not need are zero.
+// identifier in both; PCDcap2 while a first part waits. Bytes that a stage does not need are zero. Beside them the chain of
+// file frames that is open.
 pub struct Channel {
     pub stage: Stage,
     pub secret: [u8; 16],
     pub ti: [u8; 4],
     pub caps: [u8; 6],
+    pub chain: Chain,
 }
 
 // What the bench hands in with an event: the card's random number and transaction identifier.
@@ -82,6 +85,18 @@ impl Stage {
         }
     }
 
+    // Whether a first part waits for its second.
+    pub fn is_waiting(self) -> bool
+        ensures { λ r. ⌜ r ≡ isWaiting self ⌝ }
+    {
+        match self {
+            Stage::Closed => false,
+            Stage::Bench(_) => false,
+            Stage::Waiting(_) => true,
+            Stage::Real(_, _) => false,
+        }
+    }
+
     // The key of a real session or a waiting first part; 0 without one.
     pub fn key(self) -> u8
         ensures { λ r. ⌜ r ≡ stageKey self ⌝ }
@@ -120,7 +135,7 @@ impl Stage {
 }
 
 impl Channel {
-    // A stage that needs no bytes.
+    // A stage that needs no bytes, and no chain.
     pub fn bare(stage: Stage) -> Channel
         ensures { λ r. ⌜ r ≡ bare stage ⌝ }
     {
@@ -129,6 +144,7 @@ impl Channel {
             secret: [0; 16],
             ti: [0; 4],
             caps: [0; 6],
+            chain: Chain::none(),
         }
     }
 
@@ -140,11 +156,42 @@ impl Channel {
         let secret = self.secret;
         let ti = self.ti;
         let caps = self.caps;
+        let chain = self.chain;
         Channel {
             stage: stage.counted(),
             secret,
             ti,
             caps,
+            chain,
         }
+    }
+
+    // The channel with another chain.
+    pub fn chained(self, chain: Chain) -> Channel
+        ensures { λ r. ⌜ r ≡ chained self chain ⌝ }
+    {
+        let stage = self.stage;
+        let secret = self.secret;
+        let ti = self.ti;
+        let caps = self.caps;
+        Channel {
+            stage,
+            secret,
+            ti,
+            caps,
+            chain,
+        }
+    }
+
+    // The channel after n bytes of the open chain.
+    pub fn advanced(self, n: usize) -> Channel
+        ensures { λ r. ⌜ r ≡ advanced self n ⌝ }
+    {
+        let chain = self.chain;
+        let next = self.chained(chain.shortened(n));
+        if chain.left as usize <= n {
+            return next.counted();
+        }
+        next
     }
 }

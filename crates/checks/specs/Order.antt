@@ -14,7 +14,7 @@ use Rattle.frames.specs.Frame.{insOf, dataOf, wrongSize, wrongClass, wrongParam
 use Rattle.commands.specs.declared.Places.{Places}
 use Rattle.rows.specs.State.{Core}
 use Rattle.commands.specs.Places.{placesUnder, placesOf}
-use Rattle.rows.specs.Rows.{macedIn, rowsOf, ok, statusOf, commandStatus}
+use Rattle.rows.specs.Rows.{carriesMac, rowsFor, ok, statusFor, commandStatus}
 use Rattle.checks.specs.declared.Checked.{Checked}
 
 -- places 1 to 4
@@ -25,8 +25,8 @@ unfoldable pub frameOrder : Bool → Bool → Bool → Bool → ℕ
 frameOrder size class parameters frame = first (framePart size class parameters frame) ok
 
 -- places 5 to 13
-unfoldable pub commandOrder : Bool → Bool → Bool → Bool → Bool → Bool → Bool → Bool → Bool → Bool → Bool → ℕ
-commandOrder command waits length file kind grant seal off value range nothing =
+unfoldable pub commandOrder : Bool → Bool → Bool → Bool → Bool → Bool → Bool → Bool → Bool → Bool → Bool → Bool → ℕ
+commandOrder command waits length file kind grant chain seal off value range nothing =
     first
     ((0x911C when command)
     ∷ (0x91CA when waits)
@@ -34,6 +34,7 @@ commandOrder command waits length file kind grant seal off value range nothing =
     ∷ (0x91F0 when file)
     ∷ (0x919D when kind)
     ∷ (0x91AE when grant)
+    ∷ (0x919D when chain)
     ∷ (0x911E when seal)
     ∷ (0x919D when off)
     ∷ (0x919E when value)
@@ -44,21 +45,21 @@ commandOrder command waits length file kind grant seal off value range nothing =
 
 abbrev pub inOrder : Places → ℕ
 inOrder p =
-    commandOrder (p .command) (p .waits) (p .length) (p .file) (p .kind) (p .grant) (p .seal) (p .off) (p .value) (p .range) (p .nothing)
+    commandOrder (p .command) (p .waits) (p .length) (p .file) (p .kind) (p .grant) (p .chain) (p .seal) (p .off) (p .value) (p .range) (p .nothing)
 
-command-by : (c : Core) (i : ℕ) (d : List ℕ) {r : ℕ} {p : Places} → p ≡ placesOf c i d → r ≡ inOrder p → r ≡ commandStatus c i d
-unfolding commandStatus rowsOf commandOrder placesOf placesUnder
-command-by c i d e q = rw e at q
+command-by : (o : Bool) (c : Core) (i : ℕ) (d : List ℕ) {r : ℕ} {p : Places} → p ≡ placesOf o c i d → r ≡ inOrder p → r ≡ commandStatus o c i d
+unfolding commandStatus rowsFor commandOrder placesOf placesUnder
+command-by o c i d e q = rw e at q
 
 -- whether the frame's command carries a MAC; one that is refused at places 1 to 4 names no command
-unfoldable pub macedFor : Core → List ℕ → Bool
-macedFor c f =
-    pick (eqb (frameOrder (wrongSize f) (wrongClass f) (wrongParameters f) (wrongFrame f)) ok) (macedIn c (insOf f) (dataOf f)) false
+unfoldable pub macedFor : Bool → Core → List ℕ → Bool
+macedFor o c f =
+    pick (eqb (frameOrder (wrongSize f) (wrongClass f) (wrongParameters f) (wrongFrame f)) ok) (carriesMac o c (insOf f) (dataOf f)) false
 
-unfoldable pub checkedOf : Core → List ℕ → Checked
-checkedOf c f = record { status = statusOf c f; maced = macedFor c f }
+unfoldable pub checkedOf : Bool → Core → List ℕ → Checked
+checkedOf o c f = record { status = statusFor o c f; maced = macedFor o c f }
 
-module _ (c : Core) (f : List ℕ) where
+module _ (o : Bool) (c : Core) (f : List ℕ) where
   frames : List Reason
   frames = framePart (wrongSize f) (wrongClass f) (wrongParameters f) (wrongFrame f)
 
@@ -68,32 +69,32 @@ module _ (c : Core) (f : List ℕ) where
     unfolding frameOrder faultsOf frames
     by-frame = rw ev at e
 
-    frame-refuses : (s ≡ ok → ⊥) → s ≡ statusOf c f
-    unfolding statusOf rowsOf frames
-    frame-refuses n = by-frame ∙ first-refuses frames (drop 4 (rowsOf c [] (insOf f) (dataOf f))) ok (λ q. n (by-frame ∙ q))
+    frame-refuses : (s ≡ ok → ⊥) → s ≡ statusFor o c f
+    unfolding statusFor rowsFor frames
+    frame-refuses n = by-frame ∙ first-refuses frames (drop 4 (rowsFor o c [] (insOf f) (dataOf f))) ok (λ q. n (by-frame ∙ q))
 
-    frame-passes : {r i : ℕ} {d : List ℕ} {p : Places} → s ≡ ok → i ≡ insOf f → d ≡ dataOf f → p ≡ placesOf c i d → r ≡ inOrder p → r ≡ statusOf c f
-    unfolding statusOf commandStatus rowsOf frames
-    frame-passes z ei ed k q = command-by c _ _ k q ∙ rw (ei, ed) (sym (first-passes frames (drop 4 (rowsOf c [] (insOf f) (dataOf f))) ok (no-reason frames ok refl (sym by-frame ∙ z))))
+    frame-passes : {r i : ℕ} {d : List ℕ} {p : Places} → s ≡ ok → i ≡ insOf f → d ≡ dataOf f → p ≡ placesOf o c i d → r ≡ inOrder p → r ≡ statusFor o c f
+    unfolding statusFor commandStatus rowsFor frames
+    frame-passes z ei ed k q = command-by o c _ _ k q ∙ rw (ei, ed) (sym (first-passes frames (drop 4 (rowsFor o c [] (insOf f) (dataOf f))) ok (no-reason frames ok refl (sym by-frame ∙ z))))
 
-    pub frame-refused : (s ≡ ok → ⊥) → record { status = s; maced = false } ≡ checkedOf c f
+    pub frame-refused : (s ≡ ok → ⊥) → record { status = s; maced = false } ≡ checkedOf o c f
     unfolding checkedOf macedFor frameOrder frames
-    frame-refused n = λ i. record { status = frame-refuses n i; maced = skip _ (macedIn c (insOf f) (dataOf f)) false (ne-eqb (first frames ok) ok (λ q. n (by-frame ∙ q))) refl i }
+    frame-refused n = λ i. record { status = frame-refuses n i; maced = skip _ (carriesMac o c (insOf f) (dataOf f)) false (ne-eqb (first frames ok) ok (λ q. n (by-frame ∙ q))) refl i }
 
-    pub frame-passed : {r i : ℕ} {d : List ℕ} {p : Places} → s ≡ ok → i ≡ insOf f → d ≡ dataOf f → p ≡ placesOf c i d → r ≡ inOrder p
-        → record { status = r; maced = p .maced } ≡ checkedOf c f
+    pub frame-passed : {r i : ℕ} {d : List ℕ} {p : Places} → s ≡ ok → i ≡ insOf f → d ≡ dataOf f → p ≡ placesOf o c i d → r ≡ inOrder p
+        → record { status = r; maced = p .maced } ≡ checkedOf o c f
     unfolding checkedOf macedFor frameOrder frames placesOf placesUnder
     frame-passed {p = p} z ei ed k q =
-        let a : p .maced ≡ macedIn c (insOf f) (dataOf f) = rw (k, ei, ed) refl in
+        let a : p .maced ≡ carriesMac o c (insOf f) (dataOf f) = rw (k, ei, ed) refl in
         λ j. record { status = frame-passes z ei ed k q j; maced = hit _ _ false (eq-eqb (first frames ok) ok (sym by-frame ∙ z)) a j }
 
-  pub status-told : {r : Checked} → r ≡ checkedOf c f → r .status ≡ statusOf c f
+  pub status-told : {r : Checked} → r ≡ checkedOf o c f → r .status ≡ statusFor o c f
   unfolding checkedOf
   status-told e = ap (λ (r : Checked). r .status) e
 
   -- what an accepted frame carries on
-  pub maced-told : {r : Checked} → r ≡ checkedOf c f → statusOf c f ≡ ok → r .maced ≡ macedIn c (insOf f) (dataOf f)
-  unfolding checkedOf macedFor frameOrder frames statusOf rowsOf
+  pub maced-told : {r : Checked} → r ≡ checkedOf o c f → statusFor o c f ≡ ok → r .maced ≡ carriesMac o c (insOf f) (dataOf f)
+  unfolding checkedOf macedFor frameOrder frames statusFor rowsFor
   maced-told e z =
       ap (λ (r : Checked). r .maced) e
-      ∙ picked _ _ (eq-eqb _ ok (none-first frames ok (first-half frames (drop 4 (rowsOf c [] (insOf f) (dataOf f))) (no-reason (rowsOf c f (insOf f) (dataOf f)) ok refl z))))
+      ∙ picked _ _ (eq-eqb _ ok (none-first frames ok (first-half frames (drop 4 (rowsFor o c [] (insOf f) (dataOf f))) (no-reason (rowsFor o c f (insOf f) (dataOf f)) ok refl z))))

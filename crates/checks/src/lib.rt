@@ -1,4 +1,5 @@
 // The order of checks: the first reason that applies names the status.
+use chains::Chain;
 use channel::Channel;
 use commands::Places;
 use frames::Faults;
@@ -8,6 +9,7 @@ use purse::Purse;
 use settings::Settings;
 ghost use mathlib.Core.Path.{_≡_};
 ghost use Rattle.rows.specs.State.{coreOf};
+ghost use Rattle.rows.specs.Rows.{bytesStatus};
 ghost use Rattle.checks.specs.Order.{frameOrder, commandOrder, checkedOf};
 
 // The status words, each with the place that gives it in the order below.
@@ -72,13 +74,14 @@ fn command_order(
     file: bool,
     kind: bool,
     grant: bool,
+    chain: bool,
     seal: bool,
     off: bool,
     value: bool,
     range: bool,
     nothing: bool,
 ) -> u16
-    ensures { λ r. ⌜ r ≡ commandOrder command waits length file kind grant seal off value range nothing ⌝ }
+    ensures { λ r. ⌜ r ≡ commandOrder command waits length file kind grant chain seal off value range nothing ⌝ }
 {
     if command {
         return UNKNOWN_COMMAND;
@@ -98,6 +101,9 @@ fn command_order(
     if grant {
         return NOT_GRANTED;
     }
+    if chain {
+        return DENIED;
+    }
     if seal {
         return INTEGRITY;
     }
@@ -116,8 +122,9 @@ fn command_order(
     OK
 }
 
-// A frame through the order of checks.
+// A frame through the order of checks, as a command or as the opening of a chain.
 pub fn check(
+    opening: bool,
     settings: Settings,
     keys: Keys,
     purse: Purse,
@@ -125,7 +132,7 @@ pub fn check(
     channel: Channel,
     frame: &[u8],
 ) -> Checked
-    ensures { λ r. ⌜ r ≡ checkedOf (coreOf settings keys purse log channel) (now (frame .entry)) ⌝ }
+    ensures { λ r. ⌜ r ≡ checkedOf opening (coreOf settings keys purse log channel) (now (frame .entry)) ⌝ }
 {
     let f = Faults::asked(frame);
     let s = frame_order(f.size, f.class, f.parameters, f.frame);
@@ -137,7 +144,7 @@ pub fn check(
     }
     let ins = wire::byte_at(frame, 1);
     let x = frames::data(frame);
-    let p = Places::asked(settings, keys, purse, log, channel, ins, x);
+    let p = Places::asked(opening, settings, keys, purse, log, channel, ins, x);
     let status = command_order(
         p.command,
         p.waits,
@@ -145,6 +152,7 @@ pub fn check(
         p.file,
         p.kind,
         p.grant,
+        p.chain,
         p.seal,
         p.off,
         p.value,
@@ -153,4 +161,17 @@ pub fn check(
     );
     let maced = p.maced;
     Checked { status, maced }
+}
+
+// The status of a frame of file bytes: the first of its two reasons, or OK.
+pub fn check_bytes(chain: Chain, bytes: &[u8]) -> u16
+    ensures { λ r. ⌜ r ≡ bytesStatus chain (now (bytes .entry)) ⌝ }
+{
+    if chain.left == 0 {
+        return UNKNOWN_COMMAND;
+    }
+    if chain.is_wrong(bytes.len()) {
+        return DATA_LENGTH;
+    }
+    OK
 }

@@ -8,18 +8,19 @@ use Rattle.frames.specs.Frame.{fileOf}
 use Rattle.commands.specs.declared.Places.{Places}
 use Rattle.rows.specs.State.{Core, logPending}
 use Rattle.modes.specs.Modes.{accessFor, plainOf}
-use Rattle.rows.specs.Rows.{unknownCommand, interrupts, wrongLength, lacksMac, unknownFile, otherKindOrNever, notGranted, partFails, forged, usedUp, switchedOff, badParameter, outside, longRead, nothingPending, macedIn}
+use Rattle.rows.specs.Rows.{unknownCommand, interrupts, wrongLength, lacksMac, unknownFile, otherKindOrNever, notGranted, partFails, sealedChain, forged, usedUp, switchedOff, badParameter, outside, longRead, nothingPending, macedIn, carriesMac}
 
--- where access to the file is a, and m says that the data field x is d with a MAC
-unfoldable pub placesUnder : Access → Bool → Core → ℕ → List ℕ → List ℕ → Places
-placesUnder a m c i x d =
+-- where access to the file is a, sealed says that the command is in MAC mode, and m that the data field x is d with a MAC
+unfoldable pub placesUnder : Bool → Access → Bool → Bool → Core → ℕ → List ℕ → List ℕ → Places
+placesUnder o a sealed m c i x d =
     record {
-      command = unknownCommand (c .channel .stage) i;
-      waits = interrupts (c .channel .stage) i;
-      length = wrongLength i d || lacksMac m x;
+      command = unknownCommand o (c .channel .stage) i;
+      waits = interrupts (c .channel .stage) (c .channel .chain) i;
+      length = wrongLength o i d || lacksMac m x;
       file = unknownFile i (fileOf x);
       kind = otherKindOrNever i (fileOf x) a;
       grant = notGranted i a || partFails (c .keys) (c .channel) i d;
+      chain = sealedChain o sealed;
       seal = forged (c .channel) m i x || usedUp (c .channel .stage) i;
       off = switchedOff i (c .settings .limited) (c .journal .clears);
       value = badParameter i d;
@@ -28,5 +29,5 @@ placesUnder a m c i x d =
       maced = m;
     }
 
-unfoldable pub placesOf : Core → ℕ → List ℕ → Places
-placesOf c i x = placesUnder (accessFor (c .settings) (c .channel .stage) i x) (macedIn c i x) c i x (plainOf (macedIn c i x) x)
+unfoldable pub placesOf : Bool → Core → ℕ → List ℕ → Places
+placesOf o c i x = placesUnder o (accessFor (c .settings) (c .channel .stage) i x) (macedIn c i x) (carriesMac o c i x) c i x (plainOf (carriesMac o c i x) x)

@@ -1,6 +1,6 @@
 -- The log's figures as the code reads them, and the places asked with them.
 use Prim.Native.Nat.{ℕ}
-use mathlib.Core.Bool.{Bool, true, false, _||_}
+use mathlib.Core.Bool.{Bool, true, false, _&&_, _||_}
 use mathlib.Core.List.{List, [], _∷_}
 use mathlib.Core.Path.{_≡_, refl}
 use lib.ListN.{length}
@@ -19,7 +19,7 @@ use Rattle.settings.specs.Settings.{accessTo}
 use Rattle.frames.specs.Frame.{fileOf}
 use Rattle.rows.specs.State.{logPending}
 use Rattle.modes.specs.Modes.{macedUnder, plainOf}
-use Rattle.rows.specs.Rows.{unknownCommand, interrupts, wrongLength, lacksMac, unknownFile, otherKindOrNever, notGranted, partFails, forged, usedUp, switchedOff, badParameter, outside, longRead, nothingPending}
+use Rattle.rows.specs.Rows.{unknownCommand, interrupts, wrongLength, lacksMac, unknownFile, otherKindOrNever, notGranted, partFails, forged, usedUp, switchedOff, badParameter, outside, longRead, nothingPending, carries}
 use Rattle.commands.specs.Places.{placesUnder, placesOf}
 
 pub entries-view : (l : Log) → length (log.view l .entries) ≡ l .count
@@ -36,16 +36,16 @@ pending-view l = by (l .adds)
     by false = refl
 
 -- where they were asked of the file number n, the access a, and the data field d without a MAC if m
-pub asked-by : (s : Settings) (ks : Keys) (p : Purse) (l : Log) (ch : Channel) (i : ℕ) (x : List ℕ)
-    {n : ℕ} {k : Session} {a : Access} {m : Bool} {d : List ℕ} {v1 v2 v3 v4 v5 v6 v7 v8 v9 v10 v11 v12 v13 v14 v15 : Bool}
-    → n ≡ fileOf x → k ≡ actingOf (ch .stage) → a ≡ accessTo s k i n → m ≡ macedUnder a s (ch .stage) i x → d ≡ plainOf m x
-    → v1 ≡ unknownCommand (ch .stage) i → v2 ≡ interrupts (ch .stage) i → v3 ≡ wrongLength i d → v4 ≡ lacksMac m x → v5 ≡ unknownFile i n
+pub asked-by : (o : Bool) (s : Settings) (ks : Keys) (p : Purse) (l : Log) (ch : Channel) (i : ℕ) (x : List ℕ)
+    {n : ℕ} {k : Session} {a : Access} {sealed m : Bool} {d : List ℕ} {v1 v2 v3 v4 v5 v6 v7 v8 v9 v10 v11 v12 v13 v14 v15 : Bool}
+    → n ≡ fileOf x → k ≡ actingOf (ch .stage) → a ≡ accessTo s k i n → sealed ≡ macedUnder a s (ch .stage) i x → m ≡ carries o sealed → d ≡ plainOf m x
+    → v1 ≡ unknownCommand o (ch .stage) i → v2 ≡ interrupts (ch .stage) (ch .chain) i → v3 ≡ wrongLength o i d → v4 ≡ lacksMac m x → v5 ≡ unknownFile i n
     → v6 ≡ otherKindOrNever i n a → v7 ≡ notGranted i a → v8 ≡ partFails ks ch i d → v9 ≡ forged ch m i x → v10 ≡ usedUp (ch .stage) i
     → v11 ≡ switchedOff i (s .limited) (l .clears) → v12 ≡ badParameter i d → v13 ≡ outside (s .limits) p (l .count) i d → v14 ≡ longRead m i d
     → v15 ≡ nothingPending i (p .moved) (l .adds || l .clears)
-    → record { command = v1; waits = v2; length = v3 || v4; file = v5; kind = v6; grant = v7 || v8; seal = v9 || v10; off = v11; value = v12; range = v13 || v14; nothing = v15; maced = m }
-    ≡ placesOf (record { settings = s; keys = ks; purse = p; journal = log.view l; channel = ch }) i x
+    → record { command = v1; waits = v2; length = v3 || v4; file = v5; kind = v6; grant = v7 || v8; chain = o && sealed; seal = v9 || v10; off = v11; value = v12; range = v13 || v14; nothing = v15; maced = m }
+    ≡ placesOf o (record { settings = s; keys = ks; purse = p; journal = log.view l; channel = ch }) i x
 unfolding placesOf placesUnder
-asked-by s ks p l ch i x en ek ea em ed e1 e2 e3 e4 e5 e6 e7 e8 e9 e10 e11 e12 e13 e14 e15 =
+asked-by o s ks p l ch i x en ek ea es em ed e1 e2 e3 e4 e5 e6 e7 e8 e9 e10 e11 e12 e13 e14 e15 =
     let c : log.view l .clears ≡ l .clears = unfold log.view in refl in
-    rw (e1, e2, e3, e4, e5, e6, e7, e8, e9, e10, e11, e12, e13, e14, e15, ed, em, ea, ek, en, entries-view l, pending-view l, c) refl
+    rw (e1, e2, e3, e4, e5, e6, e7, e8, e9, e10, e11, e12, e13, e14, e15, ed, em, es, ea, ek, en, entries-view l, pending-view l, c) refl

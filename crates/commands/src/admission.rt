@@ -1,5 +1,6 @@
 // Places 5 to 9a of the order of checks, a test each: whether the card takes the command at all.
 use access::Access;
+use chains::Chain;
 use channel::Channel;
 use channel::Stage;
 use columns::Row;
@@ -7,9 +8,8 @@ use columns::table;
 use keys::Keys;
 ghost use mathlib.Core.Path.{_≡_};
 ghost use Rattle.access.specs.Rights.{isNever, isNotGranted};
-ghost use Rattle.channel.specs.Channel.{isWaiting};
 ghost use Rattle.columns.specs.Table.{isBase, isFile};
-ghost use Rattle.rows.specs.Rows.{unknownCommand, interrupts, wrongLength, lacksMac, unknownFile, otherKindOrNever, notGranted, partFails, forged, usedUp};
+ghost use Rattle.rows.specs.Rows.{unknownCommand, interrupts, sentOf, wrongLength, lacksMac, unknownFile, otherKindOrNever, notGranted, partFails, forged, usedUp, carries};
 
 fn is_base(ins: u8) -> bool
     ensures { λ r. ⌜ r ≡ isBase ins ⌝ }
@@ -18,37 +18,39 @@ fn is_base(ins: u8) -> bool
     row.names | row.ends
 }
 
-fn is_waiting(stage: Stage) -> bool
-    ensures { λ r. ⌜ r ≡ isWaiting stage ⌝ }
+pub fn unknown_command(opening: bool, stage: Stage, ins: u8) -> bool
+    ensures { λ r. ⌜ r ≡ unknownCommand opening stage ins ⌝ }
 {
-    match stage {
-        Stage::Closed => false,
-        Stage::Bench(_) => false,
-        Stage::Waiting(_) => true,
-        Stage::Real(_, _) => false,
+    if opening {
+        return ins != table::WRITE_DATA;
     }
-}
-
-pub fn unknown_command(stage: Stage, ins: u8) -> bool
-    ensures { λ r. ⌜ r ≡ unknownCommand stage ins ⌝ }
-{
     let base = is_base(ins);
-    let waits = is_waiting(stage);
+    let waits = stage.is_waiting();
     !(base | (ins == table::AUTHENTICATE_FIRST) | ((ins == table::AUTHENTICATE_SECOND) & waits))
 }
 
-pub fn interrupts(stage: Stage, ins: u8) -> bool
-    ensures { λ r. ⌜ r ≡ interrupts stage ins ⌝ }
+pub fn interrupts(stage: Stage, chain: Chain, ins: u8) -> bool
+    ensures { λ r. ⌜ r ≡ interrupts stage chain ins ⌝ }
 {
-    let waits = is_waiting(stage);
-    waits & (ins != table::AUTHENTICATE_SECOND)
+    let waits = stage.is_waiting();
+    (waits & (ins != table::AUTHENTICATE_SECOND)) | (chain.left != 0)
 }
 
-pub fn wrong_length(ins: u8, d: &[u8]) -> bool
-    ensures { λ r. ⌜ r ≡ wrongLength ins (now (d .entry)) ⌝ }
+// How many bytes stand behind a write's length field.
+fn sent(opening: bool, d: &[u8]) -> u32
+    ensures { λ r. ⌜ r ≡ sentOf opening (now (d .entry)) ⌝ }
+{
+    if opening {
+        return 0;
+    }
+    wire::le3_at(d, 4)
+}
+
+pub fn wrong_length(opening: bool, ins: u8, d: &[u8]) -> bool
+    ensures { λ r. ⌜ r ≡ wrongLength opening ins (now (d .entry)) ⌝ }
 {
     let n = d.len();
-    let len = wire::le3_at(d, 4);
+    let len = sent(opening, d);
     let with_bytes = len as usize + 7;
     let caps = wire::byte_at(d, 1);
     let with_caps = caps as usize + 2;
@@ -66,6 +68,16 @@ pub fn wrong_length(ins: u8, d: &[u8]) -> bool
         | ((ins == table::GET_FILE_SETTINGS) & (n != 1))
         | ((ins == table::AUTHENTICATE_FIRST) & ((n < 2) | (n != with_caps)))
         | ((ins == table::AUTHENTICATE_SECOND) & (n != 32))
+}
+
+// Whether a command that is in MAC mode, if sealed says so, carries a MAC.
+pub fn carries(opening: bool, sealed: bool) -> bool
+    ensures { λ r. ⌜ r ≡ carries opening sealed ⌝ }
+{
+    if opening {
+        return false;
+    }
+    sealed
 }
 
 pub fn lacks_mac(maced: bool, x: &[u8]) -> bool

@@ -18,6 +18,7 @@ pub struct Places {
     pub file: bool,
     pub kind: bool,
     pub grant: bool,
+    pub chain: bool,
     pub seal: bool,
     pub off: bool,
     pub value: bool,
@@ -27,8 +28,9 @@ pub struct Places {
 }
 
 impl Places {
-    // Asks each of the INS and its data field x.
+    // Asks each of the INS and its data field x, as a command or as the opening of a chain.
     pub fn asked(
+        opening: bool,
         settings: Settings,
         keys: Keys,
         purse: Purse,
@@ -37,21 +39,24 @@ impl Places {
         ins: u8,
         x: &[u8],
     ) -> Places
-        ensures { λ r. ⌜ r ≡ placesOf (record { settings = settings; keys = keys; purse = purse; journal = view log; channel = channel }) ins (now (x .entry)) ⌝ }
+        ensures { λ r. ⌜ r ≡ placesOf opening (record { settings = settings; keys = keys; purse = purse; journal = view log; channel = channel }) ins (now (x .entry)) ⌝ }
     {
         let stage = channel.stage;
+        let chain = channel.chain;
         let n = wire::byte_at(x, 0);
         let access = settings.access_to(stage.acting(), ins, n);
-        let maced = modes::is_maced(access, settings, stage, ins, x);
+        let sealed = modes::is_maced(access, settings, stage, ins, x);
+        let maced = admission::carries(opening, sealed);
         let d = modes::plain(maced, x);
         Places {
-            command: admission::unknown_command(stage, ins),
-            waits: admission::interrupts(stage, ins),
-            length: admission::wrong_length(ins, d) | admission::lacks_mac(maced, x),
+            command: admission::unknown_command(opening, stage, ins),
+            waits: admission::interrupts(stage, chain, ins),
+            length: admission::wrong_length(opening, ins, d) | admission::lacks_mac(maced, x),
             file: admission::unknown_file(ins, n),
             kind: admission::other_kind_or_never(ins, n, access),
             grant: admission::not_granted(ins, access)
                 | admission::part_fails(keys, channel, ins, d),
+            chain: opening & sealed,
             seal: admission::is_forged(channel, maced, ins, x) | admission::used_up(stage, ins),
             off: parameters::switched_off(ins, settings.limited, log.clears),
             value: parameters::bad_parameter(ins, d),

@@ -2,7 +2,7 @@
 use Prim.Native.Nat.{ℕ, _+_, _≤_, _<_}
 use mathlib.Core.Bool.{Bool, true, false, _||_}
 use mathlib.Core.List.{List, [], _∷_, _++_}
-use mathlib.Core.Logic.{_↔_}
+use mathlib.Core.Logic.{_↔_, _⊎_}
 use mathlib.Core.Path.{_≡_}
 use lib.Dec.{eqb}
 use lib.IntN.{ℤ}
@@ -13,19 +13,19 @@ use Rattle.limits.specs.Limits.{within}
 use Rattle.keys.specs.declared.Keys.{Keys}
 use Rattle.channel.specs.declared.Channel.{Channel}
 use Rattle.channel.specs.declared.Inputs.{Inputs}
-use Rattle.channel.specs.Channel.{isReal, isWaiting, bare, closed}
+use Rattle.channel.specs.Channel.{isReal, isWaiting, bare, closed, chained}
 use Rattle.frames.specs.Frame.{insOf, dataOf}
 use Rattle.settings.specs.declared.Settings.{Settings}
-use Rattle.rows.specs.Rows.{rowsOf, ok, statusOf}
+use Rattle.rows.specs.Rows.{rowsFor, ok, statusFor, bytesRows, bytesStatus}
 use Rattle.card.specs.declared.Card.{Card}
 use Rattle.card.specs.declared.Reply.{Reply}
 use Rattle.card.specs.View.{view, broken}
-use Rattle.card.specs.Outcome.{Answered}
+use Rattle.card.specs.Outcome.{Outcome, Answered}
 use Rattle.standing.specs.Rules.{orderRefusal}
-use Rattle.card.specs.Events.{refused, accepted, laidInto, commanded, issued}
+use Rattle.card.specs.Events.{Played, refused, accepted, opening, delivered, laidInto, commanded, chainOpened, bytesSent, issued}
 use Rattle.demands.specs.Books.{booked}
 use Rattle.demands.specs.DataFiles.{filed}
-use Rattle.demands.specs.History.{Event, power, outcome, next, Said, said, run, along, bookLine, fileLine, traced, booksOf}
+use Rattle.demands.specs.History.{Event, power, outcome, next, Said, said, run, along, bookAccount, fileAccount, traced, booksOf}
 
 -- a card that keeps the standing rules; its fields have the sizes that their types give them
 pub record Kept (c : Card) : Type 0 where
@@ -54,7 +54,8 @@ unfoldable pub among : ℕ → List ℕ → Bool
 among n [] = false
 among n (m ∷ ms) = eqb n m || among n ms
 
--- settings, keys, data files, committed value, allowance and log as before; no session, and no byte that one left; nothing pending
+-- settings, keys, data files, committed value, allowance and log as before; no session, no chain, and no byte that one left; nothing
+-- pending. Before is before the refused event: bytes of a chain that were delivered by then stay in their file, the one exception
 pub record Untouched (before after : Card) : Type 0 where
   pub settings : after .settings ≡ before .settings
   pub keys : after .keys ≡ before .keys
@@ -80,15 +81,27 @@ pub record Replied (c : Card) (before after : List ℕ) (r : Reply) : Type 0 whe
   pub refusal : r .refusal ≡ 0
   pub refused : Refusal status → (shown ≡ []) × Untouched c (r .card)
 
+-- no reply: an accepted opening, or an accepted frame of file bytes that is not the last
+pub record Silent (before after : List ℕ) (r : Reply) : Type 0 where
+  pub bytes : after ≡ before
+  pub len : r .len ≡ 0
+  pub refusal : r .refusal ≡ 0
+
 -- the method `command`, as its contract says, left this buffer and returned r
 pub record Demand1 (c : Card) (before after : List ℕ) (r : Reply) : Type 0 where
   pub replied : Kept c → 258 ≤ length before → Replied c before after r
   pub short : length before < 258 → (r .card ≡ c) × (after ≡ before)
 
+-- the same for `open_chain` and `file_frame`
+pub record Demand1Chain (c : Card) (before after : List ℕ) (r : Reply) : Type 0 where
+  pub replied : Kept c → 258 ≤ length before → Replied c before after r ⊎ Silent before after r
+  pub short : length before < 258 → (r .card ≡ c) × (after ≡ before)
+
 -- ---- demand 2: refused exactly when a row of the table applies, by the first such row
 
-abbrev pub rowsFor : Card → List ℕ → List Reason
-rowsFor c f = rowsOf (view c .core) f (insOf f) (dataOf f)
+-- of a command, and of an opening where o says so
+abbrev pub rowsOn : Bool → Card → List ℕ → List Reason
+rowsOn o c f = rowsFor o (view c .core) f (insOf f) (dataOf f)
 
 -- a row that applies, with none above it that does
 pub record FirstRow (rows : List Reason) (status : ℕ) : Type 0 where
@@ -100,24 +113,32 @@ pub record FirstRow (rows : List Reason) (status : ℕ) : Type 0 where
   pub applies : row .applies ≡ true
   pub names : row .status ≡ status
 
-abbrev pub Accepts : Card → List ℕ → Type 0
-Accepts c f = (u : Inputs) (room : ℕ) → 258 ≤ room → commanded c f u room ≡ laidInto c (accepted (view c) u (insOf f) (dataOf f))
+-- an event with a reply buffer does what p says, whatever the room above 258
+abbrev pub Plays : Card → (ℕ → Outcome) → Played → Type 0
+Plays c event p = (room : ℕ) → 258 ≤ room → event room ≡ laidInto c p
 
-abbrev pub Refuses : Card → List ℕ → ℕ → Type 0
-Refuses c f status = (u : Inputs) (room : ℕ) → 258 ≤ room → commanded c f u room ≡ laidInto c (refused (view c) status)
+abbrev pub Refuses : Card → (ℕ → Outcome) → ℕ → Type 0
+Refuses c event status = Plays c event (refused (view c) status)
 
-pub record Demand2 (c : Card) (f : List ℕ) : Type 0 where
-  pub accepted : (statusOf (view c .core) f ≡ ok) ↔ NoReason (rowsFor c f)
-  pub refused : (status : ℕ) → ((statusOf (view c .core) f ≡ status) × (status ≡ ok → ⊥)) ↔ FirstRow (rowsFor c f) status
-  pub accepts : Kept c → NoReason (rowsFor c f) → Accepts c f
-  pub refuses : (status : ℕ) → Kept c → FirstRow (rowsFor c f) status → Refuses c f status
+-- an event that gives this status by these rows; where none applies it plays p
+pub record Judged (c : Card) (event : ℕ → Outcome) (status : ℕ) (rows : List Reason) (p : Played) : Type 0 where
+  pub accepted : (status ≡ ok) ↔ NoReason rows
+  pub refused : (s : ℕ) → ((status ≡ s) × (s ≡ ok → ⊥)) ↔ FirstRow rows s
+  pub accepts : Kept c → NoReason rows → Plays c event p
+  pub refuses : (s : ℕ) → Kept c → FirstRow rows s → Refuses c event s
   -- one answer alone fits the contract
-  pub one : (u : Inputs) (before after after′ : List ℕ) (r r′ : Reply) → Answered (commanded c f u (length before)) before after r
-      → Answered (commanded c f u (length before)) before after′ r′ → (r ≡ r′) × (after ≡ after′)
+  pub one : (before after after′ : List ℕ) (r r′ : Reply) → Answered (event (length before)) before after r
+      → Answered (event (length before)) before after′ r′ → (r ≡ r′) × (after ≡ after′)
 
--- zero bytes beside a stage that needs none
+-- the bytes f as a command and as an opening, and the bytes b as a frame of file bytes
+pub record Demand2 (c : Card) (f b : List ℕ) : Type 0 where
+  pub command : (u : Inputs) → Judged c (commanded c f u) (statusFor false (view c .core) f) (rowsOn false c f) (accepted (view c) u (insOf f) (dataOf f))
+  pub chain : Judged c (chainOpened c f) (statusFor true (view c .core) f) (rowsOn true c f) (opening (view c) (dataOf f))
+  pub file-bytes : Judged c (bytesSent c b) (bytesStatus (c .channel .chain) b) (bytesRows (c .channel .chain) b) (delivered (view c) b)
+
+-- zero bytes beside a stage that needs none; that the figures of no chain are zero is a standing rule
 abbrev pub Clean : Channel → Type 0
-Clean k = isReal (k .stage) ≡ false → isWaiting (k .stage) ≡ false → k ≡ bare (k .stage)
+Clean k = isReal (k .stage) ≡ false → isWaiting (k .stage) ≡ false → k ≡ chained (bare (k .stage)) (k .chain)
 
 -- an accepted personalisation: bench refusals 1 to 3 are not given
 abbrev pub Taken : Settings → ℤ → Type 0
@@ -137,8 +158,8 @@ pub record Standing (s : Settings) (ks : Keys) (v : ℤ) (es : List Event) : Typ
 -- ---- demand 3: value, allowance and log are the books over the struck history
 
 pub record Demand3 (s : Settings) (ks : Keys) (v : ℤ) (es : List Event) : Type 0 where
-  pub books : booksOf (view (reached s ks v es)) ≡ booked v (traced bookLine (issued s ks v) es)
-  pub files : reached s ks v es .files ≡ filed (traced fileLine (issued s ks v) es)
+  pub books : booksOf (view (reached s ks v es)) ≡ booked v (traced bookAccount (issued s ks v) es)
+  pub files : reached s ks v es .files ≡ filed (traced fileAccount (issued s ks v) es)
   pub settings : reached s ks v es .settings ≡ s
   pub keys : reached s ks v es .keys ≡ ks
   pub value-inside : within (s .limits) (reached s ks v es .purse .value) ≡ true

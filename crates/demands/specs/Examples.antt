@@ -21,6 +21,7 @@ use Rattle.settings.specs.Settings as settings
 use Rattle.rows.specs.State as state
 use Rattle.keys.specs.Keys as keys
 use Rattle.channel.specs.declared.Inputs.{Inputs}
+use Rattle.chains.specs.Chain as chain
 use Rattle.channel.specs.Channel as channel
 use Rattle.modes.specs.Modes as modes
 use Rattle.rows.specs.Rows as rows
@@ -32,20 +33,20 @@ use Rattle.card.specs.Outcome as outcomes
 use Rattle.card.specs.Events as events
 use Rattle.demands.specs.Strike.{followed, strike, posts, part, through}
 use Rattle.demands.specs.Books.{sum, some, valueAfter, allowanceAfter, overwritten, entriesAfter, Books, booked}
-use Rattle.demands.specs.History.{Handed, Event, command, session, power, outcome, next, Said, said, run, along, bookLine, lineBy, traced}
+use Rattle.demands.specs.History.{Handed, Event, command, opens, delivers, session, power, outcome, next, Said, said, run, along, bookLine, bookAccount, lineBy, traced}
 
 unfoldable pub program : Settings
 program = settings.alike 0xEEEE (record { lower = pos 0; upper = pos 1000 }) true
 
 -- the replies along a history of the program's card; to unfold this is to unfold all that a computed reply needs
 unfoldable pub replies : List Event → List Said
-unfolding pick laid laidIn outsideOf le3 le4 word files.sizeOf files.bytesOf files.zeros files.endOf files.shown files.written crossed within purse.resting purse.credited purse.debited purse.rebooked purse.settled purse.dropped rules.unequal journal.blank journal.joined journal.shown journal.freshOr journal.written journal.cleared journal.pushed journal.resting journal.settled journal.dropped log.cut log.view log.some log.put log.empty access.rightsSound access.sealed access.granting access.accessOf frame.wrongSize frame.wrongClass frame.wrongParameters frame.wrongFrame table.onFile table.namesFile table.isFile table.suits settings.rightsOf settings.accessTo settings.rightsBroken state.logPending rows.unknownCommand rows.interrupts rows.lengthCases rows.lacksMac rows.unknownFile rows.otherKindOrNever rows.notGranted rows.partFails rows.forged rows.usedUp rows.switchedOff rows.parameterCases rows.ranged rows.roomOf rows.amountCases rows.outside rows.longRead rows.nothingPending rows.rowsOf rows.statusOf effects.purseAfter effects.journalAfter effects.filesAfter shownOf card.view card.put rules.brokenBy outcomes.replyOf outcomes.bench events.channelAfter events.changed events.shown events.macBehind events.acceptedStatus events.acceptedPlain events.ended events.refused events.accepted events.played events.laidInto events.commanded events.withSession events.sessionChanged events.poweredUp events.issued outcome said along run settings.alike keys.zeros channel.counted channel.bare modes.macedUnder modes.plainOf program
+unfolding pick laid laidIn outsideOf le3 le4 word files.sizeOf files.bytesOf files.zeros files.endOf files.shown files.written crossed within purse.resting purse.credited purse.debited purse.rebooked purse.settled purse.dropped rules.unequal journal.blank journal.joined journal.shown journal.freshOr journal.written journal.cleared journal.pushed journal.resting journal.settled journal.dropped log.cut log.view log.some log.put log.empty access.rightsSound access.sealed access.granting access.accessOf frame.wrongSize frame.wrongClass frame.wrongParameters frame.wrongFrame table.onFile table.namesFile table.isFile table.suits settings.rightsOf settings.accessTo settings.rightsBroken state.logPending rows.unknownCommand rows.interrupts rows.sentOf rows.lengthCases rows.lacksMac rows.unknownFile rows.otherKindOrNever rows.notGranted rows.partFails rows.forged rows.usedUp rows.switchedOff rows.parameterCases rows.ranged rows.roomOf rows.amountCases rows.outside rows.longRead rows.nothingPending rows.rowsFor rows.statusFor rows.bytesStatus effects.purseAfter effects.journalAfter effects.filesAfter shownOf card.view card.put rules.brokenBy outcomes.replyOf outcomes.bench events.channelAfter events.changed events.shown events.macBehind events.acceptedStatus events.acceptedPlain events.ended events.refused events.accepted events.played events.laidInto events.benchRefusal events.commanded events.opening events.openingPlayed events.chainOpened events.delivered events.bytesPlayed events.bytesSent events.withSession events.sessionChanged events.poweredUp events.issued outcome said along run settings.alike keys.zeros channel.counted channel.bare channel.chained channel.advanced chain.unchained chain.announced chain.shortened chain.wrongBytes chain.chainSound modes.macedUnder modes.plainOf program
 replies es = along next said (events.issued program keys.zeros (pos 100)) es
 
 -- the books over such a history
 unfoldable pub books : List Event → Books
 unfolding replies followed strike posts part through sum some valueAfter allowanceAfter overwritten entriesAfter booked bookLine lineBy traced
-books es = booked (pos 100) (traced bookLine (events.issued program keys.zeros (pos 100)) es)
+books es = booked (pos 100) (traced bookAccount (events.issued program keys.zeros (pos 100)) es)
 
 -- the program's bench inputs are zeros
 abbrev zeros : Inputs
@@ -129,3 +130,26 @@ pub sales-booked : books sales
     ≡ record { value = pos 75; allowance = 0; log = (0xAA ∷ 0 ∷ 0 ∷ 0 ∷ 0 ∷ 0 ∷ 0 ∷ 0 ∷ 0 ∷ 0 ∷ 0 ∷ 0 ∷ 0 ∷ 0 ∷ 0 ∷ 0xBB ∷ []) ∷ [] }
 unfolding books sales
 sales-booked = refl
+
+-- no model in which a chain stays out of its file, or comes back out of it: two bytes in two frames, then a chain torn behind its first
+pub torn-write : replies
+    (opens (0x90 ∷ 0x8D ∷ 0 ∷ 0 ∷ 7 ∷ 0x1F ∷ 0x1E ∷ 0 ∷ 0 ∷ 2 ∷ 0 ∷ 0 ∷ 0 ∷ [])
+    ∷ delivers (0xAA ∷ [])
+    ∷ delivers (0xBB ∷ [])
+    ∷ opens (0x90 ∷ 0x8D ∷ 0 ∷ 0 ∷ 7 ∷ 0x1F ∷ 0x1E ∷ 0 ∷ 0 ∷ 2 ∷ 0 ∷ 0 ∷ 0 ∷ [])
+    ∷ delivers (0xCC ∷ [])
+    ∷ power
+    ∷ sends 0xAD (0x1F ∷ 0x1D ∷ 0 ∷ 0 ∷ 3 ∷ 0 ∷ 0 ∷ [])
+    ∷ delivers (0xDD ∷ [])
+    ∷ [])
+    ≡ says []
+    ∷ says []
+    ∷ says (0x91 ∷ 0x00 ∷ [])
+    ∷ says []
+    ∷ says []
+    ∷ says []
+    ∷ says (0 ∷ 0xCC ∷ 0xBB ∷ 0x91 ∷ 0x00 ∷ [])
+    ∷ says (0x91 ∷ 0x1C ∷ [])
+    ∷ []
+unfolding replies
+torn-write = refl

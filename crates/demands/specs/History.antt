@@ -10,14 +10,16 @@ use Rattle.access.specs.declared.Session.{Session}
 use Rattle.access.specs.Rights.{sessionSound}
 use Rattle.frames.specs.Frame.{insOf, dataOf, fileOf, offsetOf, bytesIn, amountOf}
 use Rattle.columns.specs.Table.{writeData, credit, debit, limitedCredit, writeRecord, clearRecordFile, commitTransaction, abortTransaction}
+use Rattle.chains.specs.declared.Chain.{Chain}
+use Rattle.chains.specs.Chain.{nextPlace}
 use Rattle.channel.specs.declared.Inputs.{Inputs}
 use Rattle.rows.specs.State.{Core, State}
 use Rattle.modes.specs.Modes.{plainOf}
-use Rattle.rows.specs.Rows.{ok, macedIn, statusOf}
+use Rattle.rows.specs.Rows.{ok, macedIn, statusOf, openingStatus, bytesStatus}
 use Rattle.card.specs.declared.Card.{Card}
 use Rattle.card.specs.View.{view}
 use Rattle.card.specs.Outcome.{Outcome, replyOf}
-use Rattle.card.specs.Events.{commanded, sessionChanged, poweredUp}
+use Rattle.card.specs.Events.{commanded, chainOpened, bytesSent, sessionChanged, poweredUp}
 use Rattle.demands.specs.Strike.{Line, posted, closed, broken, idle}
 use Rattle.demands.specs.Books.{Op, paid-in, paid-out, rebooked, entered, cleared, Books}
 use Rattle.demands.specs.DataFiles.{Write}
@@ -27,16 +29,23 @@ pub record Handed (u : Inputs) : Type 0 where
   pub random : length (u .random) ≡ 16
   pub ti : length (u .ti) ≡ 4
 
--- a bench refusal is no part of a history: a command comes with room for its reply, a session change names a key 0 to 4 or none
+-- a bench refusal is no part of a history: what may be replied to comes with room for a reply, a session change names a key 0 to 4
+-- or none
 pub data Event : Type 0 where
   -- a frame, any bytes, with what the bench hands in
   command : List ℕ → (u : Inputs) → Handed u → Event
+  -- the opening of a chain, any bytes
+  opens : List ℕ → Event
+  -- a frame of file bytes
+  delivers : List ℕ → Event
   session : (k : Session) → sessionSound k ≡ true → Event
   power : Event
 
 -- what the definitions of demand 2 answer
 unfoldable pub outcome : Card → Event → Outcome
 outcome c (command f u handed) = commanded c f u 258
+outcome c (opens f) = chainOpened c f 258
+outcome c (delivers b) = bytesSent c b 258
 outcome c (session k known) = sessionChanged c k
 outcome c power = poweredUp c
 
@@ -87,15 +96,34 @@ fileLine i d = pick (eqb i writeData) (posted (record { file = fileOf d; place =
 abbrev pub plainIn : Core → List ℕ → List ℕ
 plainIn c f = plainOf (macedIn c (insOf f) (dataOf f)) (dataOf f)
 
--- any event: a refused command and a power-up break off, a session change does not, nor do the parts of an authentication
-unfoldable pub lineBy : {X : Type 0} → (ℕ → List ℕ → Line X) → State → Event → Line X
-lineBy acceptedLine s (command f u handed) = pick (eqb (statusOf (s .core) f) ok) (acceptedLine (insOf f) (plainIn (s .core) f)) broken
-lineBy acceptedLine s (session k known) = idle
-lineBy acceptedLine s power = broken
+-- an accepted frame b of the chain k is a write of its bytes at its place
+abbrev pub writeOf : Chain → List ℕ → Write
+writeOf k b = record { file = k .file; place = nextPlace k; bytes = b }
+
+-- what an account notes of an accepted command, and of an accepted frame of file bytes
+pub record Account (X : Type 0) : Type 0 where
+  pub ofCommand : ℕ → List ℕ → Line X
+  pub ofWrite : Write → Line X
+
+-- the books do not notice chains; for the data files each frame is a write
+abbrev pub bookAccount : Account Op
+bookAccount = record { ofCommand = bookLine; ofWrite = λ w. idle }
+
+abbrev pub fileAccount : Account Write
+fileAccount = record { ofCommand = fileLine; ofWrite = posted }
+
+-- any event: what is refused and a power-up break off, a session change does not, nor do the parts of an authentication and the
+-- opening of a chain
+unfoldable pub lineBy : {X : Type 0} → Account X → State → Event → Line X
+lineBy a s (command f u handed) = pick (eqb (statusOf (s .core) f) ok) (a .ofCommand (insOf f) (plainIn (s .core) f)) broken
+lineBy a s (opens f) = pick (eqb (openingStatus (s .core) f) ok) idle broken
+lineBy a s (delivers b) = pick (eqb (bytesStatus (s .core .channel .chain) b) ok) (a .ofWrite (writeOf (s .core .channel .chain) b)) broken
+lineBy a s (session k known) = idle
+lineBy a s power = broken
 
 -- the lines of a history from the card c on
-unfoldable pub traced : {X : Type 0} → (ℕ → List ℕ → Line X) → Card → List Event → List (Line X)
-traced acceptedLine = along next (λ c e. lineBy acceptedLine (view c) e)
+unfoldable pub traced : {X : Type 0} → Account X → Card → List Event → List (Line X)
+traced a = along next (λ c e. lineBy a (view c) e)
 
 -- what a state holds for good
 abbrev pub booksOf : State → Books

@@ -3,11 +3,13 @@ pub mod Names
 pub mod Sound
 pub mod Steps
 pub mod Inside
+pub mod Chained
 pub mod Induct
 pub mod Posting
 pub mod Opened
 pub mod Booked
 pub mod Filed
+pub mod Delivery
 pub mod FirstRow
 pub mod Issued
 pub mod Room

@@ -5,6 +5,7 @@ pub mod History
 pub mod Calls
 pub mod Demands
 pub mod Sessions
+pub mod Chains
 pub mod Examples
 pub mod Laws
 pub mod Proofs

@@ -1,4 +1,4 @@
--- The theorems: what Demands states.
+-- The theorems: what Demands, Sessions and Chains state.
 pub mod Demand1
 pub mod Demand2
 pub mod Demand3
@@ -6,3 +6,5 @@ pub mod InCode
 pub mod LetIn
 pub mod WrongMac
 pub mod AsPlain
+pub mod Torn
+pub mod Whole

@@ -11,7 +11,8 @@ use Rattle.field.specs.Bytes.{Bytes, Block, Sized}
 use Rattle.keys.specs.Keys.{keyAt}
 use Rattle.channel.specs.declared.Inputs.{Inputs}
 use Rattle.channel.specs.declared.Stage.the-variants.{Bench, Real}
-use Rattle.channel.specs.Channel.{isWaiting, counterOf, bare}
+use Rattle.chains.specs.Chain.{isOpen}
+use Rattle.channel.specs.Channel.{isWaiting, counterOf, bare, chained}
 use Rattle.sealing.specs.Sealing.{sealOf}
 use Rattle.derivation.specs.Derivation.{macKey}
 use Rattle.frames.specs.Frame.{insOf, dataOf, lrpIn}
@@ -22,7 +23,7 @@ use Rattle.card.specs.View.{view, onChannel}
 use Rattle.card.specs.Outcome.{Outcome}
 use Rattle.card.specs.Events.{commanded}
 use Rattle.till.specs.Till.{firstFrame, learntB, secondPart, secondFrame, repliedTi, knowsUs, sealed, sealable}
-use Rattle.demands.specs.Demands.{Kept, Untouched, FirstRow, rowsFor}
+use Rattle.demands.specs.Demands.{Kept, Untouched, FirstRow, rowsOn}
 
 -- a command with room for its reply
 abbrev pub sends : Card → List ℕ → Inputs → Outcome
@@ -36,7 +37,7 @@ macedFrame c f = sealed (c .channel .secret) (c .channel .ti) (counterOf (c .cha
 
 -- the same card under a session of the bench with the key k
 abbrev pub onBench : Card → ℕ → Card
-onBench c k = onChannel c (bare (Bench k))
+onBench c k = onChannel c (chained (bare (Bench k)) (c .channel .chain))
 
 -- the card c under a real session with the key k, at command counter n
 pub record SealedAsPlain (c : Card) (k n : ℕ) (f : List ℕ) (u : Inputs) : Type 0 where
@@ -53,7 +54,7 @@ pub record SealedAsPlain (c : Card) (k n : ℕ) (f : List ℕ) (u : Inputs) : Ty
 
 -- a plain frame that passes places 1 to 4 and takes a MAC, and whose command is in MAC mode on the card
 pub record Sealable (c : Card) (f : List ℕ) : Type 0 where
-  pub framed : NoReason (take 4 (rowsFor c f))
+  pub framed : NoReason (take 4 (rowsOn false c f))
   pub takes : sealable f ≡ true
   pub mode : macedIn (view c .core) (insOf f) (dataOf (macedFrame c f)) ≡ true
 
@@ -65,7 +66,7 @@ AsPlain = (c : Card) (k n : ℕ) → Kept c → c .channel .stage ≡ Real k n �
 -- refused by a row at or above 911E, with nothing but the session lost
 pub record WrongMac (c : Card) (g : List ℕ) (u : Inputs) : Type 0 where
   pub status : ℕ
-  pub row : FirstRow (take 11 (rowsFor c g)) status
+  pub row : FirstRow (take 12 (rowsOn false c g)) status
   pub reply : sends c g u .out ≡ word status
   pub untouched : Untouched c (sends c g u .card)
 
@@ -105,6 +106,6 @@ module _ (c : Card) (k : ℕ) (a caps : List ℕ) (u u′ : Inputs) where
     pub proved : knowsUs key a r ≡ true
 
 abbrev pub Terminals : Type 0
-Terminals = (c : Card) → Kept c → isWaiting (c .channel .stage) ≡ false → (k : ℕ) → k ≤ 4 → Block (keyAt (c .keys) k)
+Terminals = (c : Card) → Kept c → isWaiting (c .channel .stage) ≡ false → isOpen (c .channel .chain) ≡ false → (k : ℕ) → k ≤ 4 → Block (keyAt (c .keys) k)
     → (a : List ℕ) → Block a → (caps : List ℕ) → Bytes caps → length caps ≤ 253 → (lrpIn (k ∷ length caps ∷ caps) ≡ 1 → ⊥)
     → (u u′ : Inputs) → Block (u .random) → Sized 4 (u .ti) → LetIn c k a caps u u′

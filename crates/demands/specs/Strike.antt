@@ -51,3 +51,8 @@ module _ {X : Type 0} where
 unfoldable pub through : {A B : Type 0} → (B → A → B) → B → List A → B
 through f b [] = b
 through f b (x ∷ xs) = through f (f b x) xs
+
+-- lists one behind the other
+unfoldable pub flat : {X : Type 0} → List (List X) → List X
+flat [] = []
+flat (x ∷ xs) = x ++ flat xs

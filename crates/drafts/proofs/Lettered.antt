@@ -4,7 +4,7 @@ use mathlib.Core.Bool.{Bool, true, false, _&&_, _||_}
 use mathlib.Core.List.{List}
 use mathlib.Core.Path.{_≡_, refl, sym, ap, _∙_}
 use borrow.Author.Tests.{eqb-true, lt-ltb, le-ltb, eq-eqb, ne-eqb}
-use lib.Dec.{eqb}
+use lib.Dec.{eqb, leb}
 use lib.ListN.{length, getD, take}
 use native.Mathlib.Omega.{arith}
 use Rattle.tables.specs.Choice.{pick, picked, passed, order, and-yes, and-right}
@@ -13,7 +13,7 @@ use Rattle.text.specs.Hex.{isHex, spelt, leading}
 use Rattle.text.specs.Laws.{leading-all, leading-most, hex-test}
 use Rattle.lines.specs.Laws.{spelt-there, said-by}
 use Rattle.held.specs.declared.Draft.{Draft}
-use Rattle.held.specs.Held.{over, sent, noted}
+use Rattle.held.specs.Held.{over, counted, sent, noted}
 use Rattle.drafts.specs.Drafts.{unread, unchanged, authenticated, maced, letteredBy, lettered, drafted}
 
 -- m bytes behind a letter, where the line has 2 m digits behind it
@@ -34,6 +34,9 @@ module _ (d : Draft) (line : List ℕ) (letter n : ℕ) (digits : Bool) (b : Lis
   abbrev is-n : Bool
   is-n = eqb letter 0x4E && eqb n 40 && digits
 
+  abbrev is-c : Bool
+  is-c = eqb letter 0x43 && leb 2 n && digits
+
   abbrev is-over : Bool
   is-over = eqb letter 0x53 || eqb letter 0x50
 
@@ -49,20 +52,24 @@ module _ (d : Draft) (line : List ℕ) (letter n : ℕ) (digits : Bool) (b : Lis
   unfolding letteredBy
   by-n e₁ e₂ e = search order depth 9
 
-  pub by-over : is-m ≡ false → is-a ≡ false → is-n ≡ false → is-over ≡ true → unchanged (over d) line ≡ letteredBy d line letter n digits b
+  pub by-c : is-m ≡ false → is-a ≡ false → is-n ≡ false → is-c ≡ true → unchanged (counted d) line ≡ letteredBy d line letter n digits b
   unfolding letteredBy
-  by-over e₁ e₂ e₃ e = search order depth 9
+  by-c e₁ e₂ e₃ e = search order depth 9
 
-  pub by-other : is-m ≡ false → is-a ≡ false → is-n ≡ false → is-over ≡ false → unchanged d line ≡ letteredBy d line letter n digits b
+  pub by-over : is-m ≡ false → is-a ≡ false → is-n ≡ false → is-c ≡ false → is-over ≡ true → unchanged (over d) line ≡ letteredBy d line letter n digits b
   unfolding letteredBy
-  by-other e₁ e₂ e₃ e = search order depth 9
+  by-over e₁ e₂ e₃ e₄ e = search order depth 9
+
+  pub by-other : is-m ≡ false → is-a ≡ false → is-n ≡ false → is-c ≡ false → is-over ≡ false → unchanged d line ≡ letteredBy d line letter n digits b
+  unfolding letteredBy
+  by-other e₁ e₂ e₃ e₄ e = search order depth 9
 
 module _ (d : Draft) (line : List ℕ) (letter : ℕ) where
   -- where they are no digits, no line looks at them
   unspelt : (n : ℕ) (a b : List ℕ) → letteredBy d line letter n false a ≡ letteredBy d line letter n false b
   unfolding letteredBy
   unspelt n a b =
-      rw (and-right (eqb letter 0x4D) false refl, and-right (eqb letter 0x41 && eqb n 66) false refl, and-right (eqb letter 0x4E && eqb n 40) false refl) (unfold pick in refl)
+      rw (and-right (eqb letter 0x4D) false refl, and-right (eqb letter 0x41 && eqb n 66) false refl, and-right (eqb letter 0x4E && eqb n 40) false refl, and-right (eqb letter 0x43 && leb 2 n) false refl) (unfold pick in refl)
 
   module _ (rest bytes after : List ℕ) (size n : ℕ) (few : length rest ≤ 1024) (room : 512 ≤ length bytes) (ln : n ≡ length rest)
       (s : Shows (take (length bytes) (leading rest)) bytes after size) where

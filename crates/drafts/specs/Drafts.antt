@@ -3,7 +3,7 @@ use Prim.Native.Nat.{ℕ}
 use mathlib.Core.Bool.{Bool, _&&_, _||_}
 use mathlib.Core.List.{List, [], _∷_, _++_}
 use mathlib.Core.Path.{_≡_}
-use lib.Dec.{eqb, ltb}
+use lib.Dec.{eqb, leb, ltb}
 use lib.ListN.{length, getD}
 use Rattle.tables.specs.Choice.{pick}
 use Rattle.wire.specs.Bytes.{part, Shows}
@@ -39,14 +39,16 @@ maced d f = pick (d .held && sealable f) (record { next = counted d; out = inDig
 -- ---- a line
 
 -- a letter with n characters behind it, which are digits or not, and the bytes that they spell:
--- M and a frame; A and 66 digits; N and 40 digits; S and P, which end a session; any other
+-- M and a frame; A and 66 digits; N and 40 digits; C and two digits at least, whose whole chain is one command to the card;
+-- S and P, which end a session; any other
 unfoldable pub letteredBy : Draft → List ℕ → ℕ → ℕ → Bool → List ℕ → Said Draft
 letteredBy d line letter n digits b =
     pick (eqb letter 0x4D && digits) (maced d b)
     (pick (eqb letter 0x41 && eqb n 66 && digits) (authenticated d b)
     (pick (eqb letter 0x4E && eqb n 40 && digits) (unchanged (noted d b) line)
+    (pick (eqb letter 0x43 && leb 2 n && digits) (unchanged (counted d) line)
     (pick (eqb letter 0x53 || eqb letter 0x50) (unchanged (over d) line)
-    (unchanged d line))))
+    (unchanged d line)))))
 
 unfoldable pub lettered : Draft → List ℕ → ℕ → List ℕ → Said Draft
 lettered d line letter rest = letteredBy d line letter (length rest) (isHex rest) (pick (isHex rest) (spelt rest) [])

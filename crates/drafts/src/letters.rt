@@ -31,6 +31,9 @@ fn put_spelt(
     if (letter == b'N') & (n == 40) & digits {
         return parts::put_same(parts::noted(draft, b), line, text);
     }
+    if (letter == b'C') & (2 <= n) & digits {
+        return parts::put_same(held::counted(draft), line, text);
+    }
     if (letter == b'S') | (letter == b'P') {
         return parts::put_same(held::over(draft), line, text);
     }

@@ -19,17 +19,18 @@ use Rattle.columns.specs.Table.{onFile, namesFile, isFile, suits}
 use Rattle.settings.specs.Settings.{alike, rightsOf, accessTo, rightsBroken}
 use Rattle.rows.specs.State.{logPending}
 use Rattle.keys.specs.Keys as keys
+use Rattle.chains.specs.Chain.{unchained, chainSound}
 use Rattle.channel.specs.declared.Inputs.{Inputs}
 use Rattle.channel.specs.Channel.{counted, bare}
 use Rattle.modes.specs.Modes.{macedUnder, plainOf}
-use Rattle.rows.specs.Rows.{unknownCommand, interrupts, lengthCases, lacksMac, unknownFile, otherKindOrNever, notGranted, partFails, forged, usedUp, switchedOff, parameterCases, ranged, roomOf, amountCases, outside, longRead, nothingPending, rowsOf, statusOf}
+use Rattle.rows.specs.Rows.{unknownCommand, interrupts, sentOf, lengthCases, lacksMac, unknownFile, otherKindOrNever, notGranted, partFails, forged, usedUp, switchedOff, parameterCases, ranged, roomOf, amountCases, outside, longRead, nothingPending, rowsFor, statusFor}
 use Rattle.effects.specs.Effects.{purseAfter, journalAfter, filesAfter}
 use Rattle.replies.specs.Replies.{shownOf}
 use Rattle.card.specs.declared.Card.{Card}
 use Rattle.card.specs.View.{view, put}
 use Rattle.standing.specs.Rules.{unequal, brokenBy, orderRefusal}
 use Rattle.card.specs.Outcome.{bench}
-use Rattle.card.specs.Events.{channelAfter, changed, shown, macBehind, acceptedStatus, acceptedPlain, ended, refused, accepted, played, laidInto, commanded, issued, blank, personalised}
+use Rattle.card.specs.Events.{channelAfter, changed, shown, macBehind, acceptedStatus, acceptedPlain, ended, refused, accepted, played, laidInto, benchRefusal, commanded, issued, blank, personalised}
 
 -- frames sent one after the other to a new card, the replies, and the log's entries at the end
 pub record Edge : Type 0 where
@@ -139,5 +140,5 @@ pub expected : Edge → Seen
 expected e = record { replies = e .replies; entries = e .entries }
 
 pub edges-answered : map answered edges ≡ map expected edges
-unfolding answered expected edges inputs played-on settings alike keys.zeros counted bare macedUnder plainOf pick laid laidIn outsideOf le3 le4 word files.sizeOf files.bytesOf files.zeros files.endOf files.shown files.written crossed within purse.resting purse.credited purse.debited purse.rebooked purse.settled purse.dropped unequal journal.blank journal.joined journal.shown journal.freshOr journal.written journal.cleared journal.pushed journal.resting journal.settled journal.dropped log.cut log.view log.some log.put log.empty rightsSound sealed granting accessOf wrongSize wrongClass wrongParameters wrongFrame onFile namesFile isFile suits rightsOf accessTo logPending rightsBroken unknownCommand interrupts lengthCases lacksMac unknownFile otherKindOrNever notGranted partFails forged usedUp switchedOff parameterCases ranged roomOf amountCases outside longRead nothingPending rowsOf statusOf purseAfter journalAfter filesAfter channelAfter changed shown macBehind acceptedStatus acceptedPlain shownOf view put brokenBy bench ended refused accepted played laidInto commanded issued blank orderRefusal personalised
+unfolding answered expected edges inputs played-on settings alike keys.zeros counted bare unchained chainSound macedUnder plainOf pick laid laidIn outsideOf le3 le4 word files.sizeOf files.bytesOf files.zeros files.endOf files.shown files.written crossed within purse.resting purse.credited purse.debited purse.rebooked purse.settled purse.dropped unequal journal.blank journal.joined journal.shown journal.freshOr journal.written journal.cleared journal.pushed journal.resting journal.settled journal.dropped log.cut log.view log.some log.put log.empty rightsSound sealed granting accessOf wrongSize wrongClass wrongParameters wrongFrame onFile namesFile isFile suits rightsOf accessTo logPending rightsBroken unknownCommand interrupts sentOf lengthCases lacksMac unknownFile otherKindOrNever notGranted partFails forged usedUp switchedOff parameterCases ranged roomOf amountCases outside longRead nothingPending rowsFor statusFor purseAfter journalAfter filesAfter channelAfter changed shown macBehind acceptedStatus acceptedPlain shownOf view put brokenBy bench ended refused accepted played laidInto benchRefusal commanded issued blank orderRefusal personalised
 edges-answered = refl

@@ -56,7 +56,8 @@ pub fn next_files(files: Files, ins: u8, d: &[u8]) -> Files
     ensures { λ r. ⌜ r ≡ filesAfter ins (now (d .entry)) files ⌝ }
 {
     if ins == table::WRITE_DATA {
-        return files.write(wire::byte_at(d, 0), wire::le3_at(d, 1), frames::bytes_in(d));
+        let at = wire::le3_at(d, 1);
+        return files.write(wire::byte_at(d, 0), at as usize, frames::bytes_in(d));
     }
     files
 }

@@ -22,6 +22,7 @@ over d = record { random = d .random; identifier = d .identifier; held = false; 
 unfoldable pub raised : ℕ → ℕ
 raised c = pick (ltb c 0xFFFF) (c + 1) c
 
+-- a command counts; a chain is one command, which counts at its opening
 unfoldable pub counted : Draft → Draft
 counted d = record { random = d .random; identifier = d .identifier; held = d .held; key = d .key; ti = d .ti; counter = raised (d .counter) }
 

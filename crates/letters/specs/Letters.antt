@@ -2,7 +2,7 @@
 use Prim.Native.Nat.{ℕ, _+_, _*_}
 use mathlib.Core.Bool.{Bool, _&&_, _||_}
 use mathlib.Core.List.{List, [], _∷_}
-use lib.Dec.{eqb, ltb}
+use lib.Dec.{eqb, leb, ltb}
 use lib.ListN.{length, getD}
 use Rattle.tables.specs.Choice.{pick}
 use Rattle.wire.specs.Bytes.{part}
@@ -10,9 +10,9 @@ use Rattle.channel.specs.declared.Inputs.{Inputs}
 use Rattle.access.specs.declared.Session.the-variants.{Nobody, Key}
 use Rattle.card.specs.declared.Card.{Card}
 use Rattle.card.specs.Outcome.{Outcome}
-use Rattle.card.specs.Events.{sessionChanged, poweredUp, personalised}
+use Rattle.card.specs.Events.{chainOpened, bytesSent, sessionChanged, poweredUp, personalised}
 use Rattle.text.specs.Hex.{isHex, spelt}
-use Rattle.answers.specs.Answers.{numbered, refusalText}
+use Rattle.answers.specs.Answers.{numbered, refusalText, replyText}
 use Rattle.books.specs.Books.{booksText}
 use Rattle.orders.specs.Order.{orderIn}
 use Rattle.lines.specs.Lines.{Said}
@@ -22,7 +22,7 @@ use Rattle.letters.specs.declared.Told.{Told}
 
 -- what the code tells of a line; the books are those of the card after it
 unfoldable pub saidOf : Told → Said Desk
-saidOf r = record { next = r .desk; out = noticeText (r .notice) (r .desk .card .purse) (r .desk .card .log) (r .desk .card .channel .stage) }
+saidOf r = record { next = r .desk; out = noticeText (r .notice) (r .desk .card .purse) (r .desk .card .log) (r .desk .card .channel .stage) (r .desk .card .channel .chain) }
 
 unfoldable pub withCard : Desk → Card → Desk
 withCard k c = record { card = c; inputs = k .inputs; room = k .room; bench = k .bench }
@@ -39,7 +39,15 @@ powered k = record { next = withCard k (poweredUp (k .card) .card); out = refusa
 unfoldable pub counted : Desk → Outcome → Said Desk
 counted k o = record { next = withCard k (o .card); out = numbered (o .refusal) }
 
--- ---- R: the length of the buffer lent to the commands that follow, at most 0200h
+-- the length of the buffer lent to an event, at most 0200h
+unfoldable pub lentRoom : ℕ → ℕ
+lentRoom room = pick (ltb 0x200 room) 0x200 room
+
+-- the reply, or the bench refusal
+unfoldable pub replied : Desk → Outcome → Said Desk
+replied k o = record { next = withCard k (o .card); out = replyText (o .refusal) (o .out) }
+
+-- ---- R: the length of the buffer lent to the events that follow, at most 0200h
 
 unfoldable pub lent : Desk → ℕ → Said Desk
 lent k n = pick (ltb 0x200 n) (unread k) (record { next = record { card = k .card; inputs = k .inputs; room = n; bench = k .bench }; out = numbered 0 })
@@ -53,10 +61,20 @@ inputsIn b = record { random = part b 0 16; ti = part b 16 20 }
 unfoldable pub handed : Desk → Inputs → Said Desk
 handed k u = record { next = record { card = k .card; inputs = u; room = k .room; bench = k .bench }; out = numbered 0 }
 
+-- ---- C and D: a chain on the card of the desk
+
+-- its opening, the frame f
+abbrev pub openedOn : Desk → List ℕ → Outcome
+openedOn k f = chainOpened (k .card) f (lentRoom (k .room))
+
+-- the file bytes b
+abbrev pub sentOn : Desk → List ℕ → Outcome
+sentOn k b = bytesSent (k .card) b (lentRoom (k .room))
+
 -- ---- B: the books
 
 unfoldable pub bookKept : Desk → Said Desk
-bookKept k = record { next = k; out = booksText (k .card .purse) (k .card .log) (k .card .channel .stage) }
+bookKept k = record { next = k; out = booksText (k .card .purse) (k .card .log) (k .card .channel .stage) (k .card .channel .chain) }
 
 -- ---- a line
 
@@ -72,8 +90,10 @@ letteredBy k letter n digits b =
     (pick (eqb letter 0x53 && eqb n 2 && digits) (counted k (sessionChanged (k .card) (Key (getD b 0 0))))
     (pick (eqb letter 0x52 && eqb n 4 && digits) (lent k (256 * getD b 0 0 + getD b 1 0))
     (pick (eqb letter 0x4E && eqb n 40 && digits) (handed k (inputsIn b))
+    (pick (eqb letter 0x43 && leb 2 n && digits) (replied k (openedOn k b))
+    (pick (eqb letter 0x44 && digits) (replied k (sentOn k b))
     (pick (eqb letter 0x42 && eqb n 0) (bookKept k)
-    (unread k))))))
+    (unread k))))))))
 
 unfoldable pub lettered : Desk → ℕ → List ℕ → Said Desk
 lettered k letter rest = letteredBy k letter (length rest) (isHex rest) (pick (isHex rest) (spelt rest) [])

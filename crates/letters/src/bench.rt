@@ -1,6 +1,7 @@
 // The lines that begin with a letter, on the bench alone.
 use super::MOST_ROOM;
 use super::Told;
+use super::chain;
 use access::Session;
 use card::Card;
 use channel::Inputs;
@@ -8,8 +9,9 @@ use desk::Desk;
 use notices::Notice;
 use orders::Order;
 ghost use mathlib.Core.Path.{_≡_};
-ghost use mathlib.Core.Bool.{true};
-ghost use Prim.Native.Nat.{_+_, _*_};
+ghost use mathlib.Core.Bool.{true, false, _||_};
+ghost use Prim.Native.Nat.{_+_, _*_, _≤_};
+ghost use lib.Dec.{eqb};
 ghost use lib.ListN.{length, getD};
 ghost use Rattle.card.specs.Events.{personalised, sessionChanged};
 ghost use Rattle.orders.specs.Order.{orderIn};
@@ -88,9 +90,9 @@ fn hand_in(mut desk: Desk, b: &[u8]) -> Told
     }
 }
 
-// A letter with n characters behind it, and the bytes b that they spell.
+// A letter other than C and D, with n characters behind it, and the bytes b that they spell.
 fn say_spelt(desk: Desk, letter: u8, n: usize, digits: bool, b: &[u8]) -> Told
-    requires { ⌜ (digits ≡ true → n ≡ 2 * length (now b)) ⌝ }
+    requires { ⌜ ((eqb letter 0x43 || eqb letter 0x44) ≡ false) × (digits ≡ true → n ≡ 2 * length (now b)) ⌝ }
     ensures { λ r. ⌜ saidOf r ≡ letteredBy desk letter n digits (now (b .entry)) ⌝ }
 {
     if (letter == b'P') & ((n == 46) | (n == 208)) & digits {
@@ -120,10 +122,14 @@ fn say_spelt(desk: Desk, letter: u8, n: usize, digits: bool, b: &[u8]) -> Told
     }
 }
 
-// A letter and the characters behind it: for an order with keys 208, and for no other line more.
+// A letter and the characters behind it: for an order with keys 208, and but for a chain no line has more.
 pub(crate) fn say_lettered(desk: Desk, letter: u8, rest: &[u8]) -> Told
+    requires { ⌜ length (now rest) ≤ 1024 ⌝ }
     ensures { λ r. ⌜ saidOf r ≡ lettered desk letter (now (rest .entry)) ⌝ }
 {
+    if (letter == b'C') | (letter == b'D') {
+        return chain::say_chained(desk, letter, rest);
+    }
     if 208 < rest.len() {
         return Told {
             desk,

@@ -1,10 +1,11 @@
 // A line that is no command: what it does to a desk, and its answer.
 mod bench;
+mod chain;
 
 use desk::Desk;
 use notices::Notice;
 ghost use mathlib.Core.Path.{_≡_};
-ghost use Rattle.letters.specs.Letters.{saidOf, powered, otherSaid};
+ghost use Rattle.letters.specs.Letters.{saidOf, lentRoom, powered, otherSaid};
 
 // A desk after such a line, and the answer.
 pub struct Told {
@@ -14,6 +15,16 @@ pub struct Told {
 
 // The largest reply buffer.
 pub const MOST_ROOM: usize = 0x200;
+
+// The room lent to an event, at most the largest reply buffer.
+pub fn lent_room(room: usize) -> usize
+    ensures { λ r. ⌜ r ≡ lentRoom room ⌝ }
+{
+    if MOST_ROOM < room {
+        return MOST_ROOM;
+    }
+    room
+}
 
 // An empty line: a power-up.
 fn power_up(mut desk: Desk) -> Told

@@ -59,6 +59,19 @@ pub frame-past : (t : List ℕ) (at : ℕ) → length t ≤ at → [] ≡ frameI
 unfolding frameIn lineLength pick
 frame-past t at h = rw (drop-of-length-le t {i = at} h)
 
+-- a line with an odd number of characters
+pub frame-odd : (s : List ℕ) → lineLength s % 2 ≡ 1 → [] ≡ frameIn s
+unfolding frameIn
+frame-odd s o = by (ltb (lineLength s) (length s) && isFrame (take (lineLength s) s)) refl
+  where
+    by : (b : Bool) → (ltb (lineLength s) (length s) && isFrame (take (lineLength s) s)) ≡ b → [] ≡ pick b (spelt (take (lineLength s) s)) []
+    by false e = unfold pick in refl
+    by true e =
+        let a = and-yes (ltb (lineLength s) (length s)) (isFrame (take (lineLength s) s)) e in
+        let v = hex-even (take (lineLength s) s) (frame-is _ (a .1) .2) .0 in
+        let n : length (take (lineLength s) s) ≡ lineLength s = omega (arith, length-take (lineLength s) s, length-most s) in
+        absurd (omega (arith, ap (λ (k : ℕ). k % 2) n))
+
 -- of the digits at the front of s, at most 512 bytes were spelt
 module _ (s frame after : List ℕ) (size : ℕ) (f : length frame ≡ 512) (w : Shows (take (length frame) (leading s)) frame after size) where
   size-is : size ≡ length (take 512 (leading s))

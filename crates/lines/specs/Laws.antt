@@ -1,15 +1,15 @@
 -- Laws of the first line of a text, of a line put where there is room, and of how far a run comes.
 use Prim.Native.Nat.{ℕ, suc, _+_, _-_, _*_, _≤_, _<_}
-use mathlib.Core.Bool.{Bool, true, false}
+use mathlib.Core.Bool.{Bool, true, false, not, _&&_}
 use mathlib.Core.List.{List, [], _∷_, _++_, append-nil, append-assoc}
 use mathlib.Core.Path.{_≡_, refl, sym, ap, _∙_}
-use borrow.Author.Tests.{eq-eqb, ne-eqb, eqb-true, leb-true, leb-false, ltb-true, ltb-false, lt-ltb, le-ltb}
+use borrow.Author.Tests.{eq-eqb, ne-eqb, eqb-true, eqb-false, not-true, leb-true, leb-false, ltb-true, ltb-false, lt-ltb, le-ltb}
 use lib.Dec.{eqb, leb, ltb}
 use lib.ListN.{length, take, drop, getD, replicate, length-append, length-drop, length-replicate, drop-of-length-le}
 use lib.Seq.{drop-cons, drop-drop, take-all}
 use native.Mathlib.Nat.{add-zero, sub-zero}
 use native.Mathlib.Omega.{arith}
-use Rattle.tables.specs.Choice.{pick, picked, passed, pick-cases}
+use Rattle.tables.specs.Choice.{pick, picked, passed, pick-cases, and-yes}
 use Rattle.wire.specs.Bytes.{part, laid, laidIn, Shows}
 use Rattle.wire.specs.Laws.{length-part, length-laid, laid-room, laid-all}
 use Rattle.text.specs.Hex.{isHex, spelt, leading}
@@ -33,6 +33,23 @@ module _ (t : List ℕ) (i : ℕ) where
   pub length-none : length t ≤ i → lineLength (drop i t) ≡ 0
   unfolding lineLength
   length-none h = rw (drop-of-length-le t {i = i} h)
+
+-- r is a place of the same line, or its end
+abbrev pub Nears : List ℕ → ℕ → ℕ → Type 0
+Nears t at r = (at ≤ r) × (at + lineLength (drop at t) ≡ r + lineLength (drop r t))
+
+-- two characters at once
+module _ (t : List ℕ) where
+  on : (i : ℕ) → i < length t → not (eqb (getD t i 0) 0x0A) ≡ true → lineLength (drop i t) ≡ lineLength (drop (i + 1) t) + 1
+  on i h f =
+      let n : suc i ≡ i + 1 = omega arith in
+      omega (arith, length-on t i h (eqb-false _ _ (not-true _ f)), ap (λ (k : ℕ). lineLength (drop k t)) n)
+
+  pub two-on : (i : ℕ) → i + 2 ≤ length t → (not (eqb (getD t i 0) 0x0A) && not (eqb (getD t (i + 1) 0) 0x0A)) ≡ true → lineLength (drop i t) ≡ lineLength (drop (i + 2) t) + 2
+  two-on i h f =
+      let a = and-yes (not (eqb (getD t i 0) 0x0A)) _ f in
+      let n : i + 1 + 1 ≡ i + 2 = omega arith in
+      omega (arith, on i (omega arith) (a .0), on (i + 1) (omega arith) (a .1), ap (λ (k : ℕ). lineLength (drop k t)) n)
 
 pub length-most : (s : List ℕ) → lineLength s ≤ length s
 unfolding lineLength

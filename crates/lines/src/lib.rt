@@ -1,18 +1,46 @@
 // Lines of a text in lent slices.
 ghost use mathlib.Core.Path.{_≡_};
 ghost use mathlib.Core.List.{[], _∷_, _++_};
-ghost use Prim.Native.Nat.{_+_, _-_};
+ghost use mathlib.Core.Bool.{true};
+ghost use Prim.Native.Nat.{_+_, _-_, _≤_};
 ghost use lib.ListN.{length, drop};
 ghost use Rattle.wire.specs.Bytes.{part};
 ghost use Rattle.text.specs.Shown.{inRoom, Adds};
 ghost use Rattle.lines.specs.Lines.{lineLength};
 ghost use Rattle.lines.specs.Frames.{frameIn};
+ghost use Rattle.lines.specs.Laws.{Nears};
+
+// Whether none of the two characters from place i on is LF.
+fn two_more(text: &[u8], i: usize) -> bool
+    requires { ⌜ i + 2 ≤ length (now text) ⌝ }
+    ensures { λ r. ⌜ (r ≡ true → lineLength (drop i (now (text .entry))) ≡ lineLength (drop (i + 2) (now (text .entry))) + 2) ⌝ }
+{
+    (text[i] != b'\n') & (text[i + 1] != b'\n')
+}
+
+// A place near the end of the line that stands at place at, looked for two characters at a time.
+fn near_end(text: &[u8], at: usize) -> usize
+    ensures { λ r. ⌜ Nears (now (text .entry)) at r ⌝ }
+{
+    let n = text.len();
+    if n < 2 {
+        return at;
+    }
+    let mut i = at;
+    while i <= n - 2 {
+        if !two_more(text, i) {
+            return i;
+        }
+        i += 2;
+    }
+    i
+}
 
 // The place of the first LF from at on, or where the text ends.
 pub fn line_end(text: &[u8], at: usize) -> usize
     ensures { λ r. ⌜ r ≡ at + lineLength (drop at (now (text .entry))) ⌝ }
 {
-    let mut i = at;
+    let mut i = near_end(text, at);
     while i < text.len() {
         if text[i] == b'\n' {
             return i;
@@ -22,12 +50,27 @@ pub fn line_end(text: &[u8], at: usize) -> usize
     i
 }
 
+// Whether the line at place at begins as one of a chain and has an odd number of characters. It is no frame then, and its digits,
+// which may be many, are not spelt in vain.
+fn is_chained(text: &[u8], at: usize) -> bool
+    ensures { λ r. ⌜ (r ≡ true → [] ≡ frameIn (drop at (now (text .entry)))) ⌝ }
+{
+    let first = wire::byte_at(text, at);
+    if (first == b'C') | (first == b'D') {
+        return (line_end(text, at) - at) % 2 == 1;
+    }
+    false
+}
+
 // Spells the frame that stands at place at, up to its LF, into the front of bytes, and answers the number of its bytes; 0 where
 // the line there is none.
 pub fn spell_frame(text: &[u8], at: usize, bytes: &mut [u8; 512]) -> usize
     ensures { λ r. ⌜ (r ≡ length (frameIn (drop at (now (text .entry))))) × (part (now (bytes .exit)) 0 r ≡ frameIn (drop at (now (text .entry)))) ⌝ }
 {
     if text.len() <= at {
+        return 0;
+    }
+    if is_chained(text, at) {
         return 0;
     }
     let size = text::spell(&text[at..], bytes);

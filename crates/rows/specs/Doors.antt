@@ -1,6 +1,6 @@
 -- Through which door a command is granted changes no status.
 use Prim.Native.Nat.{ℕ}
-use mathlib.Core.Bool.{_&&_}
+use mathlib.Core.Bool.{Bool, _&&_}
 use mathlib.Core.List.{List}
 use mathlib.Core.Path.{_≡_}
 use lib.Dec.{eqb}
@@ -15,20 +15,20 @@ use Rattle.settings.specs.Settings.{rightsOf, accessTo}
 use Rattle.rows.specs.State.{Core}
 use Rattle.channel.specs.Channel.{actingOf}
 use Rattle.modes.specs.Modes.{plainOf}
-use Rattle.rows.specs.Rows.{otherKindOrNever, notGranted, macedIn, rowsUnder, rowsOf, ok, statusOf}
+use Rattle.rows.specs.Rows.{otherKindOrNever, notGranted, carriesMac, rowsUnder, rowsFor, ok, statusFor}
 
 -- access as the paper decides it, every grant told as one
 unfoldable pub undividedTo : Settings → Session → ℕ → ℕ → Access
 undividedTo s k i n = undivided (rightsOf s n) k (byRead i) (byWrite i) (eqb i getValue && s .free)
 
 -- the status by that; which commands carry a MAC is told by the door, as request 06 asks
-unfoldable pub paperStatus : Core → List ℕ → ℕ
-paperStatus c f =
+unfoldable pub paperStatus : Bool → Core → List ℕ → ℕ
+paperStatus o c f =
     first
-    (rowsUnder (undividedTo (c .settings) (actingOf (c .channel .stage)) (insOf f) (fileOf (dataOf f))) (macedIn c (insOf f) (dataOf f)) c f (insOf f) (dataOf f)
-    (plainOf (macedIn c (insOf f) (dataOf f)) (dataOf f)))
+    (rowsUnder o (undividedTo (c .settings) (actingOf (c .channel .stage)) (insOf f) (fileOf (dataOf f))) (carriesMac o c (insOf f) (dataOf f)) c f (insOf f) (dataOf f)
+    (plainOf (carriesMac o c (insOf f) (dataOf f)) (dataOf f)))
     ok
 
-pub status-stays : (c : Core) (f : List ℕ) → paperStatus c f ≡ statusOf c f
-unfolding paperStatus statusOf rowsOf undividedTo accessTo otherKindOrNever notGranted
-status-stays c f = simp (same-status (rightsOf (c .settings) (fileOf (dataOf f))) (actingOf (c .channel .stage)) (byRead (insOf f)) (byWrite (insOf f)) (eqb (insOf f) getValue && c .settings .free))
+pub status-stays : (o : Bool) (c : Core) (f : List ℕ) → paperStatus o c f ≡ statusFor o c f
+unfolding paperStatus statusFor rowsFor undividedTo accessTo otherKindOrNever notGranted
+status-stays o c f = simp (same-status (rightsOf (c .settings) (fileOf (dataOf f))) (actingOf (c .channel .stage)) (byRead (insOf f)) (byWrite (insOf f)) (eqb (insOf f) getValue && c .settings .free))

@@ -1,9 +1,10 @@
 -- What status 9100 says of the rows, for each command that a row tests.
 use Prim.Native.Nat.{ℕ}
-use mathlib.Core.Bool.{true, false, not}
+use mathlib.Core.Bool.{Bool, true, false, not, _&&_}
 use mathlib.Core.List.{List, []}
 use mathlib.Core.Path.{_≡_, refl, sym, _∙_}
 use borrow.Author.Tests.{not-false, eqb-true}
+use lib.Dec.{eqb}
 use lib.ListN.{length, drop, take}
 use lib.IntN.{pos, _+ℤ_, _-ℤ_}
 use Rattle.tables.specs.Choice.{pick, none, or-no, and-right}
@@ -17,53 +18,63 @@ use Rattle.logbook.specs.Journal.{entrySize}
 use Rattle.frames.specs.Frame.{insOf, dataOf, fileOf, offsetOf, lengthOf, amountOf}
 use Rattle.columns.specs.Table.{readData, writeData, credit, debit, limitedCredit, readRecords, writeRecord, getFileSettings, authenticateFirst, authenticateSecond, onFile}
 use Rattle.rows.specs.State.{Core}
-use Rattle.channel.specs.Channel.{isReal}
+use Rattle.chains.specs.Chain.{isOpen}
+use Rattle.channel.specs.Channel.{isReal, isWaiting}
 use Rattle.modes.specs.Modes.{macedUnder, plainOf}
-use Rattle.rows.specs.Rows.{unknownCommand, lengthCases, wrongLength, lacksMac, otherKindOrNever, notGranted, partFails, forged, usedUp, switchedOff, parameterCases, ranged, roomOf, amountCases, outside, longRead, nothingPending, macedIn, rowsOf, ok, statusOf, commandStatus}
+use Rattle.rows.specs.Rows.{unknownCommand, interrupts, lengthCases, wrongLength, lacksMac, otherKindOrNever, notGranted, partFails, forged, usedUp, switchedOff, parameterCases, ranged, roomOf, amountCases, outside, longRead, nothingPending, macedIn, carriesMac, rowsFor, ok, statusFor, commandStatus}
 
--- none of the fifteen rows applies
-pub clear : (c : Core) (f : List ℕ) → statusOf c f ≡ ok → NoReason (rowsOf c f (insOf f) (dataOf f))
-unfolding statusOf rowsOf
-clear c f e = no-reason (rowsOf c f (insOf f) (dataOf f)) ok refl e
+-- none of the sixteen rows applies
+pub clear : (o : Bool) (c : Core) (f : List ℕ) → statusFor o c f ≡ ok → NoReason (rowsFor o c f (insOf f) (dataOf f))
+unfolding statusFor rowsFor
+clear o c f e = no-reason (rowsFor o c f (insOf f) (dataOf f)) ok refl e
 
 -- none from place 5 on
-pub command-clear : (c : Core) (i : ℕ) (x : List ℕ) → commandStatus c i x ≡ ok → NoReason (drop 4 (rowsOf c [] i x))
-unfolding commandStatus rowsOf
-command-clear c i x e = no-reason (drop 4 (rowsOf c [] i x)) ok refl e
+pub command-clear : (o : Bool) (c : Core) (i : ℕ) (x : List ℕ) → commandStatus o c i x ≡ ok → NoReason (drop 4 (rowsFor o c [] i x))
+unfolding commandStatus rowsFor
+command-clear o c i x e = no-reason (drop 4 (rowsFor o c [] i x)) ok refl e
 
-pub command-ok : (c : Core) (f : List ℕ) → statusOf c f ≡ ok → commandStatus c (insOf f) (dataOf f) ≡ ok
-unfolding statusOf commandStatus rowsOf
-command-ok c f e =
-    let n = clear c f e in
-    sym (first-passes (take 4 (rowsOf c f (insOf f) (dataOf f))) (drop 4 (rowsOf c [] (insOf f) (dataOf f))) ok (n .0, (n .1 .0, (n .1 .1 .0, (n .1 .1 .1 .0, tt))))) ∙ e
+pub command-ok : (o : Bool) (c : Core) (f : List ℕ) → statusFor o c f ≡ ok → commandStatus o c (insOf f) (dataOf f) ≡ ok
+unfolding statusFor commandStatus rowsFor
+command-ok o c f e =
+    let n = clear o c f e in
+    sym (first-passes (take 4 (rowsFor o c f (insOf f) (dataOf f))) (drop 4 (rowsFor o c [] (insOf f) (dataOf f))) ok (n .0, (n .1 .0, (n .1 .1 .0, (n .1 .1 .1 .0, tt))))) ∙ e
 
 -- GetFileSettings is refused at places 1 to 7, and for its MAC or at the counter's end: places 8 and 9 spare it, and so do those behind
-pub settings-told : (c : Core) (f x : List ℕ) → NoReason (take 2 (drop 8 (rowsOf c f getFileSettings x))) × NoReason (drop 11 (rowsOf c f getFileSettings x))
-unfolding rowsOf otherKindOrNever notGranted onFile partFails switchedOff parameterCases outside ranged amountCases longRead nothingPending pick
-settings-told c f x = ((refl, (refl, tt)), (refl, (refl, (refl, (refl, tt)))))
+pub settings-told : (c : Core) (f x : List ℕ) → NoReason (take 3 (drop 8 (rowsFor false c f getFileSettings x))) × NoReason (drop 12 (rowsFor false c f getFileSettings x))
+unfolding rowsFor otherKindOrNever notGranted onFile partFails switchedOff parameterCases outside ranged amountCases longRead nothingPending pick
+settings-told c f x = ((refl, (refl, (refl, tt))), (refl, (refl, (refl, (refl, tt)))))
 
 -- what a row that does not apply says, where it joins two cases
-module _ (c : Core) (i : ℕ) (x : List ℕ) (e : commandStatus c i x ≡ ok) where
+module _ (o : Bool) (c : Core) (i : ℕ) (x : List ℕ) (e : commandStatus o c i x ≡ ok) where
   -- the data field without its MAC
   abbrev pub plainIn : List ℕ
-  plainIn = plainOf (macedIn c i x) x
+  plainIn = plainOf (carriesMac o c i x) x
 
-  pub known : unknownCommand (c .channel .stage) i ≡ false
-  unfolding rowsOf
-  known = command-clear c i x e .0
+  pub known : unknownCommand o (c .channel .stage) i ≡ false
+  unfolding rowsFor
+  known = command-clear o c i x e .0
 
-  pub long-enough : (wrongLength i plainIn ≡ false) × (lacksMac (macedIn c i x) x ≡ false)
-  unfolding rowsOf
-  long-enough = or-no _ _ (command-clear c i x e .1 .1 .0)
+  -- place 5a
+  pub unbroken : interrupts (c .channel .stage) (c .channel .chain) i ≡ false
+  unfolding rowsFor
+  unbroken = command-clear o c i x e .1 .0
+
+  pub no-chain : isOpen (c .channel .chain) ≡ false
+  unfolding interrupts
+  no-chain = or-no (isWaiting (c .channel .stage) && not (eqb i authenticateSecond)) _ unbroken .1
+
+  pub long-enough : (wrongLength o i plainIn ≡ false) × (lacksMac (carriesMac o c i x) x ≡ false)
+  unfolding rowsFor
+  long-enough = or-no _ _ (command-clear o c i x e .1 .1 .0)
 
   pub counts : usedUp (c .channel .stage) i ≡ false
-  unfolding rowsOf
-  counts = or-no (forged (c .channel) (macedIn c i x) i x) _ (command-clear c i x e .1 .1 .1 .1 .1 .1 .0) .1
+  unfolding rowsFor
+  counts = or-no (forged (c .channel) (carriesMac o c i x) i x) _ (command-clear o c i x e .1 .1 .1 .1 .1 .1 .1 .0) .1
 
   -- place 12
-  pub inside : (outside (c .settings .limits) (c .purse) (length (c .journal .entries)) i plainIn ≡ false) × (longRead (macedIn c i x) i plainIn ≡ false)
-  unfolding rowsOf
-  inside = or-no _ _ (command-clear c i x e .1 .1 .1 .1 .1 .1 .1 .1 .1 .0)
+  pub inside : (outside (c .settings .limits) (c .purse) (length (c .journal .entries)) i plainIn ≡ false) × (longRead (carriesMac o c i x) i plainIn ≡ false)
+  unfolding rowsFor
+  inside = or-no _ _ (command-clear o c i x e .1 .1 .1 .1 .1 .1 .1 .1 .1 .1 .0)
 
 -- ---- the parts of an authentication
 
@@ -76,9 +87,9 @@ pub second-plain : (c : Core) (x : List ℕ) → macedIn c authenticateSecond x 
 unfolding macedUnder onFile
 second-plain c x = and-right (isReal (c .channel .stage)) false refl
 
-pub second-length : (d : List ℕ) → wrongLength authenticateSecond d ≡ false → length d ≡ 32
+pub second-length : (o : Bool) (d : List ℕ) → wrongLength o authenticateSecond d ≡ false → length d ≡ 32
 unfolding lengthCases
-second-length d e = eqb-true (length d) 32 (not-false _ (none (lengthCases authenticateSecond d) e .1 .1 .1 .1 .1 .1 .1 .1 .1 .1 .1 .1 .1 .0))
+second-length o d e = eqb-true (length d) 32 (not-false _ (none (lengthCases o authenticateSecond d) e .1 .1 .1 .1 .1 .1 .1 .1 .1 .1 .1 .1 .1 .0))
 
 module _ (l : Limits) (p : Purse) (n : ℕ) (d : List ℕ) where
   pub read-inside : outside l p n readData d ≡ false → outsideOf (sizeOf (fileOf d)) (offsetOf d) (lengthOf d) ≡ false

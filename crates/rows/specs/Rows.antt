@@ -1,6 +1,6 @@
--- The fifteen reasons for refusal, in the paper's order.
+-- The sixteen reasons for refusal, in the paper's order; and the two of a frame of file bytes.
 use Prim.Native.Nat.{ℕ, _+_, _-_}
-use mathlib.Core.Bool.{Bool, not, _&&_, _||_}
+use mathlib.Core.Bool.{Bool, true, false, not, _&&_, _||_}
 use mathlib.Core.List.{List, [], _∷_}
 use lib.Dec.{ltb, leb, eqb}
 use lib.IntN.{pos, _+ℤ_, _-ℤ_}
@@ -17,6 +17,8 @@ use Rattle.access.specs.declared.Access.{Access}
 use Rattle.access.specs.Rights.{isNever, isNotGranted}
 use Rattle.keys.specs.declared.Keys.{Keys}
 use Rattle.keys.specs.Keys.{keyAt}
+use Rattle.chains.specs.declared.Chain.{Chain}
+use Rattle.chains.specs.Chain.{isOpen, wrongBytes}
 use Rattle.channel.specs.declared.Stage.{Stage}
 use Rattle.channel.specs.declared.Channel.{Channel}
 use Rattle.channel.specs.Channel.{isWaiting, stageKey, counterOf}
@@ -27,27 +29,34 @@ use Rattle.frames.specs.Frame.{insOf, dataOf, fileOf, offsetOf, lengthOf, amoun
 use Rattle.rows.specs.State.{Core, logPending}
 use Rattle.modes.specs.Modes.{accessFor, maced, macSize, plainOf, macOf}
 
--- ---- places 5 to 13: the INS i with the data field d, at the stage g; x is the data field as sent, m that it carries a MAC
+-- ---- places 5 to 13: the INS i with the data field d, at the stage g; x is the data field as sent, m that it carries a MAC;
+-- o says that the frame opens a chain: a WriteData without its bytes and its MAC
 
--- INS not in the command table; a second part without a first
-unfoldable pub unknownCommand : Stage → ℕ → Bool
-unknownCommand g i = not (isBase i || eqb i authenticateFirst || (eqb i authenticateSecond && isWaiting g))
+-- INS not in the command table; a second part without a first; an opening of another INS than WriteData
+unfoldable pub unknownCommand : Bool → Stage → ℕ → Bool
+unknownCommand true g i = not (eqb i writeData)
+unknownCommand false g i = not (isBase i || eqb i authenticateFirst || (eqb i authenticateSecond && isWaiting g))
 
--- a first part waits and this is not the second
-unfoldable pub interrupts : Stage → ℕ → Bool
-interrupts g i = isWaiting g && not (eqb i authenticateSecond)
+-- a first part waits and this is not the second; a chain is open
+unfoldable pub interrupts : Stage → Chain → ℕ → Bool
+interrupts g k i = (isWaiting g && not (eqb i authenticateSecond)) || isOpen k
 
--- data field of the wrong length; a write's length field is the number of bytes sent
-unfoldable pub lengthCases : ℕ → List ℕ → List Bool
-lengthCases i d =
+-- the bytes behind a write's length field: as many as it says, and none in an opening
+unfoldable pub sentOf : Bool → List ℕ → ℕ
+sentOf true d = 0
+sentOf false d = lengthOf d
+
+-- data field of the wrong length
+unfoldable pub lengthCases : Bool → ℕ → List ℕ → List Bool
+lengthCases o i d =
     (eqb i readData && not (eqb (length d) 7))
-    ∷ (eqb i writeData && not (eqb (length d) (lengthOf d + 7)))
+    ∷ (eqb i writeData && not (eqb (length d) (sentOf o d + 7)))
     ∷ (eqb i getValue && not (eqb (length d) 1))
     ∷ (eqb i credit && not (eqb (length d) 5))
     ∷ (eqb i debit && not (eqb (length d) 5))
     ∷ (eqb i limitedCredit && not (eqb (length d) 5))
     ∷ (eqb i readRecords && not (eqb (length d) 7))
-    ∷ (eqb i writeRecord && not (eqb (length d) (lengthOf d + 7)))
+    ∷ (eqb i writeRecord && not (eqb (length d) (sentOf o d + 7)))
     ∷ (eqb i clearRecordFile && not (eqb (length d) 1))
     ∷ (eqb i commitTransaction && ltb 1 (length d))
     ∷ (eqb i abortTransaction && ltb 0 (length d))
@@ -56,8 +65,8 @@ lengthCases i d =
     ∷ (eqb i authenticateSecond && not (eqb (length d) 32))
     ∷ []
 
-abbrev pub wrongLength : ℕ → List ℕ → Bool
-wrongLength i d = any (lengthCases i d)
+abbrev pub wrongLength : Bool → ℕ → List ℕ → Bool
+wrongLength o i d = any (lengthCases o i d)
 
 -- fewer than eight bytes where a MAC comes off
 unfoldable pub lacksMac : Bool → List ℕ → Bool
@@ -78,6 +87,10 @@ notGranted i a = onFile i && isNotGranted a
 -- a second part that fails
 unfoldable pub partFails : Keys → Channel → ℕ → List ℕ → Bool
 partFails ks ch i d = eqb i authenticateSecond && (eqb (length d) 32 && fails (keyAt ks (stageKey (ch .stage))) (ch .secret) d)
+
+-- a chain in MAC mode, its MAC unread; sealed says that the command is in that mode
+abbrev pub sealedChain : Bool → Bool → Bool
+sealedChain o sealed = o && sealed
 
 -- wrong MAC
 unfoldable pub forged : Channel → Bool → ℕ → List ℕ → Bool
@@ -144,20 +157,25 @@ nothingPending i value log = ends i && not (value || log)
 
 -- ---- the table
 
+-- the command is in MAC mode
+abbrev pub macedIn : Core → ℕ → List ℕ → Bool
+macedIn c i x = maced (c .settings) (c .channel .stage) i x
+
 -- places 1 to 13: the frame f, with the INS i and the data field x, which is d without its MAC where m says that it has one;
 -- access to the file is a
-abbrev pub rowsUnder : Access → Bool → Core → List ℕ → ℕ → List ℕ → List ℕ → List Reason
-rowsUnder a m c f i x d =
+abbrev pub rowsUnder : Bool → Access → Bool → Core → List ℕ → ℕ → List ℕ → List ℕ → List Reason
+rowsUnder o a m c f i x d =
     (0x6700 when wrongSize f)
     ∷ (0x6E00 when wrongClass f)
     ∷ (0x6A86 when wrongParameters f)
     ∷ (0x6700 when wrongFrame f)
-    ∷ (0x911C when unknownCommand (c .channel .stage) i)
-    ∷ (0x91CA when interrupts (c .channel .stage) i)
-    ∷ (0x917E when wrongLength i d || lacksMac m x)
+    ∷ (0x911C when unknownCommand o (c .channel .stage) i)
+    ∷ (0x91CA when interrupts (c .channel .stage) (c .channel .chain) i)
+    ∷ (0x917E when wrongLength o i d || lacksMac m x)
     ∷ (0x91F0 when unknownFile i (fileOf x))
     ∷ (0x919D when otherKindOrNever i (fileOf x) a)
     ∷ (0x91AE when notGranted i a || partFails (c .keys) (c .channel) i d)
+    ∷ (0x919D when sealedChain o (macedIn c i x))
     ∷ (0x911E when forged (c .channel) m i x || usedUp (c .channel .stage) i)
     ∷ (0x919D when switchedOff i (c .settings .limited) (c .journal .clears))
     ∷ (0x919E when badParameter i d)
@@ -165,21 +183,43 @@ rowsUnder a m c f i x d =
     ∷ (0x910C when nothingPending i (c .purse .moved) (logPending (c .journal)))
     ∷ []
 
--- the frame's command carries a MAC
-abbrev pub macedIn : Core → ℕ → List ℕ → Bool
-macedIn c i x = maced (c .settings) (c .channel .stage) i x
+-- a command in MAC mode carries a MAC; an opening carries none
+abbrev pub carries : Bool → Bool → Bool
+carries true sealed = false
+carries false sealed = sealed
 
-unfoldable pub rowsOf : Core → List ℕ → ℕ → List ℕ → List Reason
-rowsOf c f i x = rowsUnder (accessFor (c .settings) (c .channel .stage) i x) (macedIn c i x) c f i x (plainOf (macedIn c i x) x)
+abbrev pub carriesMac : Bool → Core → ℕ → List ℕ → Bool
+carriesMac o c i x = carries o (macedIn c i x)
+
+unfoldable pub rowsFor : Bool → Core → List ℕ → ℕ → List ℕ → List Reason
+rowsFor o c f i x = rowsUnder o (accessFor (c .settings) (c .channel .stage) i x) (carriesMac o c i x) c f i x (plainOf (carriesMac o c i x) x)
 
 -- where none applies; the status of an accepted command's reply is a matter of the command
 abbrev pub ok : ℕ
 ok = 0x9100
 
 -- the first reason that applies names the status
-unfoldable pub statusOf : Core → List ℕ → ℕ
-statusOf c f = first (rowsOf c f (insOf f) (dataOf f)) ok
+unfoldable pub statusFor : Bool → Core → List ℕ → ℕ
+statusFor o c f = first (rowsFor o c f (insOf f) (dataOf f)) ok
 
 -- the same from place 5 on
-unfoldable pub commandStatus : Core → ℕ → List ℕ → ℕ
-commandStatus c i x = first (drop 4 (rowsOf c [] i x)) ok
+unfoldable pub commandStatus : Bool → Core → ℕ → List ℕ → ℕ
+commandStatus o c i x = first (drop 4 (rowsFor o c [] i x)) ok
+
+-- of a command, and of an opening
+abbrev pub rowsOf : Core → List ℕ → ℕ → List ℕ → List Reason
+rowsOf = rowsFor false
+
+abbrev pub statusOf : Core → List ℕ → ℕ
+statusOf = statusFor false
+
+abbrev pub openingStatus : Core → List ℕ → ℕ
+openingStatus = statusFor true
+
+-- ---- a frame b of file bytes: none without an open chain; another size, or past the announced length
+
+abbrev pub bytesRows : Chain → List ℕ → List Reason
+bytesRows k b = (0x911C when not (isOpen k)) ∷ (0x917E when wrongBytes k (length b)) ∷ []
+
+unfoldable pub bytesStatus : Chain → List ℕ → ℕ
+bytesStatus k b = first (bytesRows k b) ok

@@ -1,18 +1,15 @@
 -- A run at a line: its answer does not fit, or was added.
 use Prim.Native.Nat.{ℕ, _+_, _-_, _*_, _≤_, _<_}
 use mathlib.Core.List.{List, [], _∷_, _++_}
-use mathlib.Core.Path.{_≡_, refl, sym, ap, subst, _∙_}
-use borrow.Author.Tests.{ltb-false, le-leb}
-use lib.Dec.{ltb, eqb}
-use lib.ListN.{length, take, drop, length-append, length-take}
-use lib.Seq.{take-append-le}
+use mathlib.Core.Path.{_≡_, refl, sym, ap, _∙_}
+use borrow.Author.Tests.{le-leb}
+use lib.Dec.{eqb}
+use lib.ListN.{length, drop, length-append, length-take}
 use native.Mathlib.Nat.{sub-zero}
 use native.Mathlib.Omega.{arith}
 use Rattle.tables.specs.Choice.{pick-cases, picked, passed}
 use Rattle.wire.specs.Bytes.{part}
-use Rattle.wire.specs.Laws.{length-part}
 use Rattle.text.specs.Shown.{inRoom, Adds}
-use Rattle.text.specs.Adds.{front-laid, front-fits}
 use Rattle.text.specs.Hex.{inDigits}
 use Rattle.text.specs.Laws.{length-digits}
 use Rattle.lines.specs.Lines.{lineLength, linesAfter, Said, went, Goes}
@@ -22,45 +19,14 @@ use Rattle.lines.specs.FrameLaws.{Frame, frame-line, no-frame}
 use Rattle.lines.specs.Sofar.{Sofar, sofar-full, sofar-next, sofar-as}
 use Rattle.answers.specs.Answers.{numbered, replyText, replyLine}
 use Rattle.card.specs.declared.Reply.{Reply}
-use Rattle.card.specs.Outcome.{Outcome, replyOf, Answered}
+use Rattle.card.specs.Outcome.{Outcome, replyOf}
 use Rattle.desk.specs.declared.Desk.{Desk}
 use Rattle.letters.specs.declared.Told.{Told}
-use Rattle.letters.specs.Letters.{saidOf, withCard, otherSaid}
-use Rattle.script.specs.Lines.{lentRoom, replied, commandedOn, lineSaid}
+use Rattle.letters.specs.Letters.{saidOf, withCard, replied, otherSaid}
+use Rattle.letters.specs.Laws.{Plays, reply-bytes}
+use Rattle.script.specs.Lines.{commandedOn, lineSaid}
 
--- ---- a reply read back from the part of the buffer that was lent; f is the outcome by the length of that part
-
--- the reply r is that of the outcome o, and its bytes lie at the front of a buffer
-abbrev pub Plays : Outcome → List ℕ → Reply → Type 0
-Plays o after r = (r ≡ replyOf o) × (take (length (o .out)) after ≡ o .out) × (length (o .out) ≤ 512)
-
-plays-part : (f : ℕ → Outcome) (reply after : List ℕ) (room : ℕ) (r : Reply) → room ≤ 512 → 512 ≤ length reply
-    → length after ≡ length (part reply 0 room) → Answered (f (length (part reply 0 room))) (part reply 0 room) after r
-    → Plays (f room) (after ++ drop (room - 0) reply) r
-plays-part f reply after room r h k l a =
-    let n : length (part reply 0 room) ≡ room = length-part reply 0 room (omega arith) ∙ sub-zero room in
-    let o = f room in
-    let b : Answered o (part reply 0 room) after r = rw n at a in
-    let x : length (o .out) ≤ length (part reply 0 room) = front-fits (part reply 0 room) (o .out) (ap length (sym (b .1)) ∙ l) in
-    let t : take (length (o .out)) after ≡ o .out = rw (b .1) (front-laid (part reply 0 room) (o .out)) in
-    (b .0, take-append-le (length (o .out)) after (drop (room - 0) reply) (omega arith) ∙ t, omega arith)
-
-pub lent-most : (room : ℕ) → lentRoom room ≤ 512
-unfolding lentRoom
-lent-most room = pick-cases (λ (n : ℕ). n ≤ 512) (ltb 0x200 room) 0x200 room (λ t. omega arith) (λ t. ltb-false 0x200 room t)
-
-pub plays-lent : (f : ℕ → Outcome) (reply after : List ℕ) (m room : ℕ) (r : Reply) → room ≡ lentRoom m → 512 ≤ length reply
-    → length after ≡ length (part reply 0 room) → Answered (f (length (part reply 0 room))) (part reply 0 room) after r
-    → Plays (f (lentRoom m)) (after ++ drop (room - 0) reply) r
-plays-lent f reply after m room r e k l a =
-    subst (λ (n : ℕ). Plays (f n) (after ++ drop (room - 0) reply) r) e (plays-part f reply after room r (omega (arith, lent-most m)) k l a)
-
--- the bytes of a reply where it lies
-pub reply-bytes : (o : Outcome) (after : List ℕ) (r : Reply) → Plays o after r → (part after 0 (r .len) ≡ o .out) × (r .len ≤ 512)
-unfolding replyOf
-reply-bytes o after r p =
-    let n : r .len ≡ length (o .out) = ap (λ (x : Reply). x .len) (p .0) in
-    (rw (sub-zero (r .len), n) (p .1), rw n (p .2))
+-- ---- a line that is answered by a reply
 
 module _ (k : Desk) (l : List ℕ) (o : Outcome) (r : Reply) (after : List ℕ) (e : lineSaid k l ≡ replied k o) (p : Plays o after r) where
   text : lineSaid k l .out ≡ replyText (r .refusal) (part after 0 (r .len))

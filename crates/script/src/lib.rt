@@ -2,30 +2,19 @@
 use card::Reply;
 use desk::Desk;
 use letters::Told;
-ghost use mathlib.Core.Path.{_≡_};
 ghost use mathlib.Core.List.{[], _∷_, _++_};
 ghost use Prim.Native.Nat.{_-_};
 ghost use lib.ListN.{length};
 ghost use Rattle.text.specs.Shown.{inRoom, Adds};
 ghost use Rattle.lines.specs.Lines.{linesAfter, went, Goes};
 ghost use Rattle.letters.specs.Letters.{saidOf};
-ghost use Rattle.script.specs.Lines.{lentRoom, lineSaid};
+ghost use Rattle.script.specs.Lines.{lineSaid};
 
 // How far a script was played: the desk, the characters read, and the characters written.
 pub struct Went {
     pub desk: Desk,
     pub read: usize,
     pub written: usize,
-}
-
-// The room lent to a command, at most the largest reply buffer.
-fn lent_room(room: usize) -> usize
-    ensures { λ r. ⌜ r ≡ lentRoom room ⌝ }
-{
-    if letters::MOST_ROOM < room {
-        return letters::MOST_ROOM;
-    }
-    room
 }
 
 // Puts what is told of a line and LF from place at of out on, and answers the place behind; nothing and at where there is no room.
@@ -37,7 +26,8 @@ fn put_told(told: Told, at: usize, out: &mut [u8]) -> usize
     let card = desk.card;
     let channel = card.channel;
     let stage = channel.stage;
-    notices::put(notice, card.purse, card.log, stage, at, out)
+    let chain = channel.chain;
+    notices::put(notice, card.purse, card.log, stage, chain, at, out)
 }
 
 // Room for every answer to a command: two digits a byte of the largest reply buffer, and LF.
@@ -62,7 +52,7 @@ pub fn run(mut desk: Desk, text: &[u8], out: &mut [u8]) -> Went
     while at < text.len() {
         let size = lines::spell_frame(text, at, &mut frame);
         if 0 < size {
-            let lent = lent_room(desk.room);
+            let lent = letters::lent_room(desk.room);
             let inputs = desk.inputs;
             let card = played.card;
             if out.len() - n < MOST_ANSWER {

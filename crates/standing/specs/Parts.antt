@@ -12,8 +12,10 @@ use Rattle.purse.specs.declared.Purse.{Purse}
 use Rattle.purse.specs.Purse.{largest}
 use Rattle.logbook.specs.declared.Log.{Log}
 use Rattle.logbook.specs.Journal.{mostEntries}
+use Rattle.chains.specs.declared.Chain.{Chain}
+use Rattle.chains.specs.Chain.{isOpen, chainSound}
 use Rattle.channel.specs.declared.Stage.{Stage}
-use Rattle.channel.specs.Channel.{stageSound}
+use Rattle.channel.specs.Channel.{stageSound, isWaiting}
 use Rattle.settings.specs.declared.Settings.{Settings}
 use Rattle.settings.specs.Settings.{rightsBroken}
 use Rattle.standing.specs.Rules.{unequal, rules, brokenBy}
@@ -41,29 +43,35 @@ pub log-few : (l : Log) → logBroken l ≡ false → l .count ≤ mostEntries
 unfolding logBroken
 log-few l e = ltb-false _ _ (or-no _ _ e .0)
 
+-- of a chain
+unfoldable pub chainBroken : Stage → Chain → Bool
+chainBroken g k = not (chainSound k) || (isOpen k && isWaiting g)
+
 -- of a card
-abbrev pub parts : Settings → Purse → Log → Stage → List Bool
-parts s p l g =
+abbrev pub parts : Settings → Purse → Log → Stage → Chain → List Bool
+parts s p l g k =
     rightsBroken s
     ∷ crossed (s .limits)
     ∷ not (stageSound g)
     ∷ logBroken l
     ∷ valueBroken (s .limits) p (l .adds || l .clears)
+    ∷ chainBroken g k
     ∷ []
 
-module _ (s : Settings) (p : Purse) (l : Log) (g : Stage) where
-  pub parted : brokenBy s p l g ≡ false → None (parts s p l g)
-  unfolding brokenBy logBroken valueBroken
+module _ (s : Settings) (p : Purse) (l : Log) (g : Stage) (k : Chain) where
+  pub parted : brokenBy s p l g k ≡ false → None (parts s p l g k)
+  unfolding brokenBy logBroken valueBroken chainBroken
   parted e =
-      let (rights, (limits, (value, (pending, (few, (session, (allowance, (left, (apart, (debits, (noted, (equal, t)))))))))))) = none (rules s p l g) e in
-      (rights, (limits, (session, (or-none _ _ few apart, (no-any (valueRules (s .limits) p (l .adds || l .clears)) (value, (pending, (allowance, (left, (debits, (noted, (equal, tt))))))), tt)))))
+      let (rights, (limits, (value, (pending, (few, (session, (allowance, (left, (apart, (debits, (noted, (equal, (chain, (free, t)))))))))))))) = none (rules s p l g k) e in
+      (rights, (limits, (session, (or-none _ _ few apart, (no-any (valueRules (s .limits) p (l .adds || l .clears)) (value, (pending, (allowance, (left, (debits, (noted, (equal, tt))))))), (or-none _ _ chain free, tt))))))
 
-  pub joined : None (parts s p l g) → brokenBy s p l g ≡ false
-  unfolding brokenBy logBroken valueBroken
-  joined (rights, (limits, (session, (log, (figures, t))))) =
+  pub joined : None (parts s p l g k) → brokenBy s p l g k ≡ false
+  unfolding brokenBy logBroken valueBroken chainBroken
+  joined (rights, (limits, (session, (log, (figures, (open-chain, t)))))) =
       let (few, apart) = or-no _ _ log in
       let (value, (pending, (allowance, (left, (debits, (noted, (equal, u))))))) = none (valueRules (s .limits) p (l .adds || l .clears)) figures in
-      no-any (rules s p l g) (rights, (limits, (value, (pending, (few, (session, (allowance, (left, (apart, (debits, (noted, (equal, tt))))))))))))
+      let (chain, free) = or-no _ _ open-chain in
+      no-any (rules s p l g k) (rights, (limits, (value, (pending, (few, (session, (allowance, (left, (apart, (debits, (noted, (equal, (chain, (free, tt))))))))))))))
 
-  pub by-parts : any (parts s p l g) ≡ brokenBy s p l g
-  by-parts = fail-alike _ _ (λ e. joined (none (parts s p l g) e)) (λ e. no-any (parts s p l g) (parted e))
+  pub by-parts : any (parts s p l g k) ≡ brokenBy s p l g k
+  by-parts = fail-alike _ _ (λ e. joined (none (parts s p l g k) e)) (λ e. no-any (parts s p l g k) (parted e))

@@ -12,8 +12,10 @@ use Rattle.purse.specs.declared.Purse.{Purse}
 use Rattle.purse.specs.Purse.{largest}
 use Rattle.logbook.specs.declared.Log.{Log}
 use Rattle.logbook.specs.Journal.{mostEntries}
+use Rattle.chains.specs.declared.Chain.{Chain}
+use Rattle.chains.specs.Chain.{isOpen, chainSound}
 use Rattle.channel.specs.declared.Stage.{Stage}
-use Rattle.channel.specs.Channel.{stageSound}
+use Rattle.channel.specs.Channel.{stageSound, isWaiting}
 use Rattle.settings.specs.declared.Settings.{Settings}
 use Rattle.settings.specs.Settings.{rightsBroken}
 
@@ -30,9 +32,9 @@ unequal p =
     ∷ p .debited
     ∷ [])
 
--- in the paper's order, those behind bench refusals 1 to 3 first; each line says that one rule is broken
-abbrev pub rules : Settings → Purse → Log → Stage → List Bool
-rules s p l g =
+-- in the paper's order, those behind bench refusals 1 to 3 first, then those of a chain; each line says that one rule is broken
+abbrev pub rules : Settings → Purse → Log → Stage → Chain → List Bool
+rules s p l g k =
     rightsBroken s
     ∷ crossed (s .limits)
     ∷ not (within (s .limits) (p .value))
@@ -45,11 +47,13 @@ rules s p l g =
     ∷ ltb largest (p .debits)
     ∷ (not (p .debited) && not (eqb (p .debits) 0))
     ∷ (not (p .moved || (l .adds || l .clears)) && unequal p)
+    ∷ not (chainSound k)
+    ∷ (isOpen k && isWaiting g)
     ∷ []
 
 -- a card of these parts breaks a standing rule
-unfoldable pub brokenBy : Settings → Purse → Log → Stage → Bool
-brokenBy s p l g = any (rules s p l g)
+unfoldable pub brokenBy : Settings → Purse → Log → Stage → Chain → Bool
+brokenBy s p l g k = any (rules s p l g k)
 
 -- ---- personalisation
 

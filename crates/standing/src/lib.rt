@@ -1,4 +1,5 @@
 // The standing rules, which every card keeps, and the bench refusal of an order that would break one.
+use chains::Chain;
 use channel::Stage;
 use limits::Limits;
 use logbook::Log;
@@ -6,7 +7,7 @@ use purse::Purse;
 use settings::Settings;
 ghost use mathlib.Core.Path.{_≡_};
 ghost use Rattle.standing.specs.Rules.{unequal, brokenBy, orderRefusal};
-ghost use Rattle.standing.specs.Parts.{valueBroken, logBroken};
+ghost use Rattle.standing.specs.Parts.{valueBroken, logBroken, chainBroken};
 
 // Whether the pending figures differ from the committed ones, or a Debit is noted.
 fn unequal(purse: Purse) -> bool
@@ -35,9 +36,18 @@ fn log_breaks(log: Log) -> bool
     (Log::MOST < log.count) | (log.adds & log.clears)
 }
 
+// Those of an open chain.
+fn chain_breaks(stage: Stage, chain: Chain) -> bool
+    ensures { λ r. ⌜ r ≡ chainBroken stage chain ⌝ }
+{
+    let sound = chain.is_sound();
+    let waits = stage.is_waiting();
+    !sound | ((chain.left != 0) & waits)
+}
+
 // Whether a card of these parts breaks a standing rule.
-pub fn breaks(settings: Settings, purse: Purse, log: Log, stage: Stage) -> bool
-    ensures { λ r. ⌜ r ≡ brokenBy settings purse log stage ⌝ }
+pub fn breaks(settings: Settings, purse: Purse, log: Log, stage: Stage, chain: Chain) -> bool
+    ensures { λ r. ⌜ r ≡ brokenBy settings purse log stage chain ⌝ }
 {
     let limits = settings.limits;
     let rights = settings.has_wrong_rights();
@@ -45,7 +55,8 @@ pub fn breaks(settings: Settings, purse: Purse, log: Log, stage: Stage) -> bool
     let known = stage.is_sound();
     let in_log = log_breaks(log);
     let in_value = value_breaks(purse, limits, log.adds | log.clears);
-    rights | crossed | !known | in_log | in_value
+    let in_chain = chain_breaks(stage, chain);
+    rights | crossed | !known | in_log | in_value | in_chain
 }
 
 // The bench refusal of a personalisation, or 0.

@@ -22,15 +22,16 @@ Generates scripts of bench lines, runs PROGRAM on each as a new child process
 answer line, its LF included, with the reference model's. PROGRAM may be an
 emulator with the real program among its arguments.
 
-First come scripts of all sorts of lines, then some that play a session of
-AuthenticateEV2First to the end of its command counter, each with another end.
+First come scripts of all sorts of lines, a quarter of them with chains, then
+some that play a session of AuthenticateEV2First to the end of its command
+counter, each with another end.
 
 Options:
-  --events N   run at least N events in the first: commands, session changes and
-               power-ups (personalisations, R, N, B and ? lines don't count);
-               1000000 if not given
-  --ends N     run so many of the others, some 65,550 events each; 16 if not
-               given, which is one for each end
+  --events N   run at least N events in the first: commands, frames of chains,
+               session changes and power-ups (personalisations, R, N, B and ?
+               lines don't count); 1350000 if not given
+  --ends N     run so many of the others, some 65,550 events each and more with
+               chains; 21 if not given, which is one for each end
   --seed S     the seed of the scripts, a decimal number; 1 if not given
   --lines L    lines of one of the first scripts, about; 4000 if not given
   --stop       stop at the first script with a difference
@@ -59,7 +60,7 @@ struct Options {
 fn parse(arguments: impl Iterator<Item = OsString>) -> Result<Option<Options>, String> {
     let mut options = Options {
         ends: ENDS,
-        events: 1_000_000,
+        events: 1_350_000,
         seed: 1,
         lines: 4000,
         stop: false,

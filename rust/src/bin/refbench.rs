@@ -19,6 +19,10 @@ blocks, and the answers to all complete lines are written before the next block
 is read.
 
   hex digits (even number, at least two)  a command; prints the reply, or !5
+  C and an even number of hex digits, at  opens a chain with that frame; prints
+  least two                               the reply (none if accepted), or !5
+  D and an even number of hex digits, or  a frame of file bytes; prints the reply
+  none                                    (none before the last), or !5
   an empty line                           a power-up; prints an empty line
   P and 46 or 208 hex digits              personalises; prints !0, !1, !2 or !3
   S and 2 hex digits, or S alone          a session change; prints !0 or !4

@@ -20,19 +20,20 @@ after --plain the second one. Each may start with an emulator:
 
   speed --ours qemu-x86_64 ./bench --plain qemu-x86_64 ./refbench
 
-Six scripts are written: reads; values (value operations with commits); logs
+Seven scripts are written: reads; values (value operations with commits); logs
 (log operations with commits); refusals (thirteen places of the order of
-checks); mac-values (value operations with MACs); mac-reads (reads of 248 bytes
-with MACs). Each program is run on each script as a child process, standard input
+checks); chains (an opening and two file frames of 120 bytes by turns);
+mac-values (value operations with MACs); mac-reads (reads of 248 bytes with
+MACs). Each program is run on each script as a child process, standard input
 from the file. First the outputs of both are written to files and must be
 equal. Then follow the timed runs, the two programs by turns, standard output
 to /dev/null; the best time of each counts, from before the start of the child
 to its end, with nothing subtracted.
 
 Options, which come before --ours:
-  --lines N    lines of each script, but a tenth of it for mac-values and a
-               fiftieth for mac-reads; 200000 if not given (give more where a
-               run takes only some hundredths of a second)
+  --lines N    lines of each script, but a tenth of it for chains and for
+               mac-values and a fiftieth for mac-reads; 200000 if not given
+               (give more where a run takes only some hundredths of a second)
   --runs N     timed runs of each program on each script; 5 if not given
   --seed S     the seed of the scripts; 1 if not given
   --dir D      the folder of scripts and outputs, made if missing and kept;

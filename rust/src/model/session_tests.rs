@@ -6,19 +6,19 @@ use crate::hex::bytes;
 use crate::messaging;
 
 const TERMINAL: Block = [0x77; 16];
-const INPUTS: Inputs = Inputs {
+pub(super) const INPUTS: Inputs = Inputs {
     random: [0xB0; 16],
     transaction: [0xC0, 0xC1, 0xC2, 0xC3],
 };
-const MACED: [Mode; 5] = [Mode::Mac; 5];
+pub(super) const MACED: [Mode; 5] = [Mode::Mac; 5];
 
 /// Key `number` of [`keyed`] is sixteen times this byte.
-fn key(number: u8) -> Block {
+pub(super) fn key(number: u8) -> Block {
     [0x10 + number; 16]
 }
 
 /// A card whose files all have these rights and modes, with keys of its own.
-fn keyed(rights: u16, modes: [Mode; 5]) -> Card {
+pub(super) fn keyed(rights: u16, modes: [Mode; 5]) -> Card {
     Card::personalise(&Personalisation {
         rights: [rights; 5],
         keys: [0, 1, 2, 3, 4].map(key),
@@ -29,25 +29,25 @@ fn keyed(rights: u16, modes: [Mode; 5]) -> Card {
 }
 
 /// The reply to a frame with [`INPUTS`] handed in.
-fn send(card: &mut Card, frame: &[u8]) -> Vec<u8> {
+pub(super) fn send(card: &mut Card, frame: &[u8]) -> Vec<u8> {
     let mut room = [0xA5; REPLY_ROOM];
     let length = card.command(frame, &INPUTS, &mut room).unwrap();
     assert!(room[length..].iter().all(|&byte| byte == 0xA5));
     room[..length].to_vec()
 }
 
-fn first_part(key_number: u8) -> Vec<u8> {
+pub(super) fn first_part(key_number: u8) -> Vec<u8> {
     frame(0x71, &[key_number, 0x00])
 }
 
 /// The second part of a terminal that knows the key and the random number.
-fn second_part(key: &Block) -> Vec<u8> {
+pub(super) fn second_part(key: &Block) -> Vec<u8> {
     let blocks = messaging::second_part(key, &TERMINAL, &INPUTS.random);
     frame(0xAF, &blocks.concat())
 }
 
 /// Opens a session of the key, as a terminal does.
-fn authenticate(card: &mut Card, number: u8) {
+pub(super) fn authenticate(card: &mut Card, number: u8) {
     let reply = send(card, &first_part(number));
     assert_eq!(reply.len(), 18);
     assert_eq!(reply[16..], [0x91, 0xAF]);
@@ -57,13 +57,13 @@ fn authenticate(card: &mut Card, number: u8) {
 }
 
 /// A card of these rights and modes with a session of key 3.
-fn in_session(rights: u16, modes: [Mode; 5]) -> Card {
+pub(super) fn in_session(rights: u16, modes: [Mode; 5]) -> Card {
     let mut card = keyed(rights, modes);
     authenticate(&mut card, 3);
     card
 }
 
-fn real(card: &Card) -> RealSession {
+pub(super) fn real(card: &Card) -> RealSession {
     match card.session {
         Session::Real(session) => session,
         other => panic!("no session: {other:?}"),
@@ -79,7 +79,7 @@ fn data_of(plain: &[u8]) -> &[u8] {
 }
 
 /// The frame of a sound one with the MAC of the session behind its data.
-fn maced(card: &Card, plain: &[u8]) -> Vec<u8> {
+pub(super) fn maced(card: &Card, plain: &[u8]) -> Vec<u8> {
     let mut data = data_of(plain).to_vec();
     data.extend_from_slice(&real(card).command_mac(plain[1], &data));
     frame(plain[1], &data)
@@ -87,7 +87,7 @@ fn maced(card: &Card, plain: &[u8]) -> Vec<u8> {
 
 /// Sends a command with a MAC and expects this data, with a right MAC behind it.
 #[track_caller]
-fn accepts(card: &mut Card, plain: &[u8], data: &[u8]) {
+pub(super) fn accepts(card: &mut Card, plain: &[u8], data: &[u8]) {
     let before = real(card);
     let reply = send(card, &maced(card, plain));
     let mut expected = data.to_vec();
@@ -103,7 +103,7 @@ fn accepts(card: &mut Card, plain: &[u8], data: &[u8]) {
 
 /// Sends a frame and expects this refusal, with its effect.
 #[track_caller]
-fn refuses(card: &mut Card, frame: &[u8], status: u16) {
+pub(super) fn refuses(card: &mut Card, frame: &[u8], status: u16) {
     assert_eq!(send(card, frame), status.to_be_bytes());
     assert_eq!(card.session, Session::None);
     assert!(card.pending.is_empty());
@@ -116,7 +116,7 @@ fn refused(mut card: Card, frame: &[u8], status: u16) {
 }
 
 /// One sound frame of each command that names a file, on a file of its kind.
-fn file_commands() -> [Vec<u8>; 9] {
+pub(super) fn file_commands() -> [Vec<u8>; 9] {
     [
         with_two(0xAD, 0x00, 0, 1),
         with_write(0x8D, 0x04, 0, &[1]),
@@ -132,7 +132,7 @@ fn file_commands() -> [Vec<u8>; 9] {
 
 /// A card in session whose every file command is accepted, as are commit and
 /// abort: an allowance, an entry, something pending.
-fn busy(rights: u16, modes: [Mode; 5]) -> Card {
+pub(super) fn busy(rights: u16, modes: [Mode; 5]) -> Card {
     let mut card = in_session(rights, modes);
     card.value.allowance = 10;
     card.log.entries.push_front([7; ENTRY_SIZE]);
@@ -629,7 +629,7 @@ fn right_macs_do_not_help_a_refused_command() {
 }
 
 /// The card with its session's counter set.
-fn at_counter(mut card: Card, counter: u16) -> Card {
+pub(super) fn at_counter(mut card: Card, counter: u16) -> Card {
     if let Session::Real(session) = &mut card.session {
         session.counter = counter;
     }

@@ -458,6 +458,7 @@ fn settings_are_refused_up_to_place_7() {
 fn places_and_statuses() {
     assert_eq!(Refusal::FrameLength.place(), "1");
     assert_eq!(Refusal::Interrupted.place(), "5a");
+    assert_eq!(Refusal::ChainInMacMode.place(), "9c");
     assert_eq!(Refusal::Integrity.place(), "9a");
     assert_eq!(Refusal::NotNow.place(), "10");
     assert_eq!(Refusal::NothingPending.place(), "13");

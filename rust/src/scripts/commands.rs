@@ -53,7 +53,7 @@ impl Writer {
 
     /// A start and a count of 24 bits each, at and around the edges of `size`
     /// things.
-    fn range(&mut self, size: u64) -> (u64, u64) {
+    pub(super) fn range(&mut self, size: u64) -> (u64, u64) {
         let inside = if size == 0 { 0 } else { self.rng.below(size) };
         let start = match self.rng.below(20) {
             0..=7 => inside,

@@ -1,10 +1,13 @@
 //! Counting what a script contains.
 
-use super::Writer;
+use super::chains::OverChain;
+use super::{FrameFault, Writer};
 use crate::bench::BASE_GROUP;
-use crate::frames::{amount_frame, file_place, ins};
+use crate::frames::{amount_frame, file_place, ins, LONGEST_WRITE};
 use crate::messaging::MAC_SIZE;
-use crate::model::{Accepted, Condition, Mode, Refusal, Session, LONGEST_MAC_READ, REPLY_ROOM};
+use crate::model::{
+    Accepted, Chain, Condition, Mode, Refusal, Session, Status, LONGEST_MAC_READ, REPLY_ROOM,
+};
 use crate::tally::{LineSort, Tally};
 use crate::terminal::parts;
 
@@ -12,9 +15,12 @@ impl Writer {
     /// Counts a line that was answered.
     pub(super) fn count_line(&mut self, sort: LineSort, line: &[u8]) {
         let tally = &mut self.tally;
+        if let Session::Real(session) = self.bench.card().session() {
+            tally.highest_counter = tally.highest_counter.max(session.counter);
+        }
         match sort {
             LineSort::PowerUp => tally.power_ups += 1,
-            LineSort::Session => tally.sessions += 1,
+            LineSort::Session | LineSort::NoKey => tally.sessions += 1,
             LineSort::Room => tally.rooms += 1,
             LineSort::Personalisation => {
                 tally.personalisations[usize::from(self.answer[1] - b'0')] += 1;
@@ -24,18 +30,92 @@ impl Writer {
             LineSort::Inputs => tally.inputs += 1,
             LineSort::Other => tally.others += 1,
             LineSort::NoRoom => tally.no_room += 1,
-            // The place of a refusal is counted by `count_frame`.
+            // The place of a refusal is counted by `count_frame`, and of a frame
+            // of a chain by `count_opening` and `count_file_frame`.
             LineSort::Command => tally.commands += 1,
+            LineSort::Opening => tally.openings += 1,
+            LineSort::FileFrame => tally.file_frames += 1,
+            LineSort::OpeningNoRoom => tally.chains_no_room[0] += 1,
+            LineSort::FileFrameNoRoom => tally.chains_no_room[1] += 1,
         }
         let drops = match sort {
             LineSort::PowerUp | LineSort::Personalisation => true,
-            LineSort::Command => ![&b"9100\n"[..], b"91AF\n"]
-                .iter()
-                .any(|accepted| self.answer.ends_with(accepted)),
+            LineSort::Command | LineSort::Opening | LineSort::FileFrame => {
+                let accepted = [&b"9100\n"[..], b"91AF\n"];
+                self.answer != b"\n" && !accepted.iter().any(|&end| self.answer.ends_with(end))
+            }
             _ => false,
         };
         if drops {
             self.open = 0;
+        }
+    }
+
+    /// Counts a line that came while this chain was open.
+    pub(super) fn count_in_mid_chain(&mut self, sort: LineSort, chain: Chain) {
+        self.tally.mid_chain[sort as usize] += 1;
+        if self.chain().is_some() {
+            return;
+        }
+        let cut = self.answer != b"9100\n";
+        let torn = cut && chain.left < chain.length;
+        self.tally.torn[sort as usize] += u64::from(torn);
+        self.over = Some(OverChain { chain, cut });
+    }
+
+    /// 0 for no session, 1 for one of the bench, 2 for one of
+    /// AuthenticateEV2First; none while a first part waits.
+    fn session_sort(&self) -> Option<usize> {
+        match self.bench.card().session() {
+            Session::None => Some(0),
+            Session::Bench(_) => Some(1),
+            Session::Real(_) => Some(2),
+            Session::Waiting(_) => None,
+        }
+    }
+
+    /// Counts the outcome of an opening that is sent next.
+    pub(super) fn count_opening(&mut self, frame: &[u8], outcome: Result<(), Refusal>) {
+        if self.bench.room() < REPLY_ROOM {
+            return;
+        }
+        match (outcome, self.session_sort()) {
+            (Ok(()), Some(session)) => {
+                let card = self.bench.card();
+                let file = file_place(frame[5]).expect("an accepted file is known");
+                let by_free = session == 2 && card.modes()[file] == Mode::Mac;
+                let length = u64::from(frame[9]) | u64::from(frame[10]) << 8;
+                self.tally.chains[session][file] += 1;
+                self.tally.free_chains += u64::from(by_free);
+                self.tally.long_chains += u64::from(length > LONGEST_WRITE);
+            }
+            (Ok(()), None) => {}
+            (Err(refusal), _) => self.tally.opening_places[refusal.row()] += 1,
+        }
+    }
+
+    /// Counts the outcome of a file frame that is sent next.
+    pub(super) fn count_file_frame(
+        &mut self,
+        bytes: &[u8],
+        outcome: Result<Option<Status>, Refusal>,
+    ) {
+        if self.bench.room() < REPLY_ROOM {
+            return;
+        }
+        let card = self.bench.card();
+        let books = card.books();
+        match (outcome, self.session_sort()) {
+            (Ok(Some(_)), Some(session)) => {
+                let pending = books.value_pending || books.entry_pending || books.clear_pending;
+                self.tally.finished[session] += 1;
+                self.tally.beside_work += u64::from(pending);
+            }
+            (Ok(_), _) => self.tally.delivered += 1,
+            (Err(_), _) => {
+                let fault = FrameFault::of(card, bytes.len()).expect("a refused frame");
+                self.tally.frame_faults[fault as usize] += 1;
+            }
         }
     }
 
@@ -49,6 +129,9 @@ impl Writer {
             Ok(_) => self.count_accepted(frame),
             Err(refusal) => {
                 self.tally.places[refusal.row()] += 1;
+                if self.chain().is_some() {
+                    self.count_interruption(frame, refusal);
+                }
                 if frame.get(1) == Some(&ins::GET_FILE_SETTINGS) {
                     self.tally.settings_places[refusal.row()] += 1;
                 }
@@ -59,6 +142,17 @@ impl Writer {
                     self.tally.used_up += 1;
                 }
             }
+        }
+    }
+
+    /// Counts a command that is refused in mid-chain.
+    fn count_interruption(&mut self, frame: &[u8], refusal: Refusal) {
+        match frame
+            .get(1)
+            .and_then(|&instruction| ins::place(instruction))
+        {
+            Some(place) if refusal == Refusal::Interrupted => self.tally.interrupted[place] += 1,
+            _ => self.tally.mid_chain_places[refusal.row()] += 1,
         }
     }
 
@@ -85,7 +179,6 @@ impl Writer {
                     let mode = file.map(|place| card.modes()[place]);
                     tally.free_in_mac_mode += u64::from(!maced && mode == Some(Mode::Mac));
                 }
-                tally.highest_counter = tally.highest_counter.max(session.counter);
                 let ended = session.counter == u16::MAX && outcome == Err(Refusal::Integrity);
                 tally.ended += u64::from(ended);
                 if maced && instruction == ins::READ_DATA {

@@ -9,7 +9,10 @@ use crate::rng::Rng;
 use crate::terminal::{self, parts};
 
 /// The number of sorts of ends: what is sent at counter FFFFh.
-pub const ENDS: u64 = 16;
+pub const ENDS: u64 = 21;
+/// The ends from here on, counted from 0, are about chains, and chains lead to
+/// them too.
+const CHAIN_ENDS: u64 = 16;
 
 /// The card of these scripts: 00h is free and plain; 04h, 03h and 01h are in MAC
 /// mode and granted by key 1, and reads of them by key 2 too; 1Fh is in MAC mode,
@@ -33,16 +36,23 @@ impl Writer {
         self.theme = Theme::Sessions;
         self.mood = Mood::CALM;
         self.open = 0;
+        self.over = None;
+        let end = end.wrapping_sub(1) % ENDS;
+        let chains = if end < CHAIN_ENDS { 0 } else { 10 };
         self.line(CARD.to_vec());
         self.open_session(1);
-        self.run_to(0xFFFF - 8);
+        self.run_to(0xFFFF - 8, chains);
         // The last commands in MAC mode are looked at one by one.
         while self.counter() < 0xFFFF {
-            let last = self.cheap_command(0);
-            self.sealed_line(&last);
+            if chains > 0 && self.counter() == 0xFFFE {
+                self.short_chain();
+            } else {
+                let last = self.cheap_command(0);
+                self.sealed_line(&last);
+            }
             self.line(b"B".to_vec());
         }
-        self.play_end(end.wrapping_sub(1) % ENDS);
+        self.play_end(end);
         self.rng = rng;
         Script {
             lines: std::mem::take(&mut self.lines),
@@ -67,14 +77,29 @@ impl Writer {
         self.send(&second.expect("the first part was accepted"));
     }
 
-    /// Accepted commands up to a counter.
-    fn run_to(&mut self, counter: u16) {
+    /// Accepted commands up to a counter, in this percentage of cases a chain.
+    fn run_to(&mut self, counter: u16, chains: u64) {
         while self.counter() < counter {
-            let command = self.cheap_command(80);
-            self.sealed_line(&command);
+            if chains > 0 && self.rng.percent(chains) {
+                self.short_chain();
+            } else {
+                let command = self.cheap_command(80);
+                self.sealed_line(&command);
+            }
             if self.counter() % 0x1000 < 2 {
                 self.line(b"B".to_vec());
             }
+        }
+    }
+
+    /// A chain of one to three file frames, which counts once.
+    fn short_chain(&mut self) {
+        let bytes = self.rng.some_bytes(3);
+        let at = self.rng.below(250);
+        let longest = 1 + self.rng.below(3) as usize;
+        self.send_opening(&read_frame(ins::WRITE_DATA, 0x00, at, 3));
+        for part in bytes.chunks(longest) {
+            self.send_file_frame(part);
         }
     }
 
@@ -121,6 +146,14 @@ impl Writer {
             13 => self.sealed_line(&write_frame(ins::WRITE_DATA, 0x1F, 0, 1, &[0x5A])),
             // No first part waits.
             14 => self.send(&frame(ins::SECOND_PART, &[0; 32])),
+            // Openings: 911E, also before places 11 and 12.
+            16 => self.send_opening(&read_frame(ins::WRITE_DATA, 0x00, 0, 240)),
+            17 => self.send_opening(&read_frame(ins::WRITE_DATA, 0x00, 256, 0)),
+            // 919D of MAC mode and 91AE before it.
+            18 => self.send_opening(&read_frame(ins::WRITE_DATA, 0x04, 0, 240)),
+            19 => self.send_opening(&read_frame(ins::WRITE_DATA, 0x1F, 0, 16)),
+            // No chain is open.
+            20 => self.send_file_frame(&[0x5A]),
             // An authentication is not counted and begins anew.
             _ => {}
         }

@@ -41,13 +41,14 @@ impl Writer {
         let mut bytes = Vec::with_capacity(BASE_GROUP);
         let open = self.rng.percent(match self.theme {
             Theme::Base => 40,
-            Theme::Sessions => 10,
+            Theme::Sessions | Theme::Chains => 10,
         });
         let bad = self.rng.percent(8);
         let one_key = self.rng.below(5) as u8;
         let kind = match self.theme {
             Theme::Base => self.rng.below(5),
             Theme::Sessions => self.rng.pick(&[0, 0, 0, 1, 2, 3, 4]),
+            Theme::Chains => self.rng.pick(&[0, 0, 2, 2, 3, 4, 1]),
         };
         for _ in 0..10 {
             let mut nibble = || -> u8 {
@@ -85,7 +86,7 @@ impl Writer {
         let others = self.rng.pick(&[0x00, 0x00, 0xFC, 0x80, 0x04]);
         let free = if self.rng.percent(40) { 0x02 } else { 0x00 };
         bytes.push(switches | free | others);
-        if self.theme == Theme::Sessions && self.rng.percent(85) {
+        if self.theme != Theme::Base && self.rng.percent(85) {
             self.put_key_group(&mut bytes);
         }
         self.digits_line(b"P", &bytes);
@@ -102,7 +103,11 @@ impl Writer {
             }
         }
         let some = self.rng.byte();
-        bytes.push(self.rng.pick(&[0x1F, 0x1F, 0xFF, some, some, some, 0x00]));
+        bytes.push(match self.theme {
+            // Data files plain more often: chains have no MAC mode.
+            Theme::Chains => self.rng.pick(&[0x1F, 0xFF, 0x18, 0xF8, some, some, 0x00]),
+            _ => self.rng.pick(&[0x1F, 0x1F, 0xFF, some, some, some, 0x00]),
+        });
     }
 
     /// Lower limit, upper limit and starting value, out of order at times.
@@ -143,7 +148,7 @@ impl Writer {
     pub(super) fn other(&mut self) {
         let frame = self.sound_frame();
         let mut line = hex_line(b"", &frame);
-        match self.rng.below(24) {
+        match self.rng.below(27) {
             0 => drop(line.pop()),
             1 => line.push(b'\r'),
             2 => line.push(b' '),
@@ -205,6 +210,33 @@ impl Writer {
                     _ => line.push(b'0'),
                 }
             }
+            // A frame of a chain with another character, a wrong letter or none.
+            24 => {
+                line = self
+                    .rng
+                    .pick(&[
+                        &b"C"[..],
+                        b"C ",
+                        b"CG0",
+                        b"D0G",
+                        b"D ",
+                        b"c",
+                        b"d",
+                        b"C9",
+                        b"D0",
+                    ])
+                    .to_vec()
+            }
+            25..=26 => {
+                line = hex_line(self.rng.pick(&[b"C", b"D"]), &frame);
+                let at = 1 + self.rng.below(line.len() as u64 - 1) as usize;
+                match self.rng.below(4) {
+                    0 => line.make_ascii_lowercase(),
+                    1 => line[at] = self.rng.pick(b"GgzZ:/@`\x00\r\t -\x7F\x80\xFF"),
+                    2 => line.insert(at, self.rng.pick(b"Gx\x00")),
+                    _ => line.resize(LONGEST_LINE + 1, b'0'),
+                }
+            }
             14 => line = hex_line(b"!", &frame),
             15 => line = b"90 6C 00 00 01 03 00".to_vec(),
             16 => line = b"0x906C0000010300".to_vec(),
@@ -218,7 +250,7 @@ impl Writer {
                 line.resize(length as usize, b'0');
             }
             19 if self.rng.percent(10) => {
-                line = vec![self.rng.pick(b"PSRBN ?"); LONGEST_LINE + 1];
+                line = vec![self.rng.pick(b"PSRBNCD ?"); LONGEST_LINE + 1];
             }
             _ => {
                 let length = 1 + self.rng.below(12);

@@ -1,7 +1,7 @@
 //! Sessions of AuthenticateEV2First: their parts, and the MACs of commands,
 //! right and wrong.
 
-use super::Writer;
+use super::{Theme, Writer};
 use crate::aes::Block;
 use crate::frames::{frame, ins, FILES};
 use crate::messaging::{self, FirstPart, RealSession, MAC_SIZE};
@@ -119,7 +119,7 @@ impl Writer {
         bytes
     }
 
-    fn first_part(&mut self, key_number: u8) -> Vec<u8> {
+    pub(super) fn first_part(&mut self, key_number: u8) -> Vec<u8> {
         let capabilities = self.capabilities();
         terminal::first_part(key_number, &capabilities)
     }
@@ -159,7 +159,11 @@ impl Writer {
             self.send(&frame(ins::SECOND_PART, &blocks.concat()));
             return;
         }
-        match self.rng.below(16) {
+        let sorts = match self.theme {
+            Theme::Chains => 20,
+            _ => 16,
+        };
+        match self.rng.below(sorts) {
             0 => self.line(Vec::new()),
             1 => self.session(),
             2 => self.personalise(),
@@ -184,6 +188,7 @@ impl Writer {
                 self.damage(&mut damaged);
                 self.send(&damaged);
             }
+            16.. => self.chain_between_parts(),
             _ => {
                 let wrong = self.wrong_second_part(&first);
                 self.send(&wrong);

@@ -21,7 +21,7 @@ same-length c = search needs
 
 returns : tie.Need-returns
 unfolding marksText
-returns c = adds-then _ _ _ _ (adds-then _ _ _ _ (c .before .before .before .before .before .before .before .before .before .before .add-decimal .ensures .0) (c .before .before .before .before .before .before .add-pending .ensures .0)) (c .before .before .add-stage .ensures)
+returns c = adds-then _ _ _ _ (adds-then _ _ _ _ (c .before .before .before .before .before .before .before .before .before .before .before .add-decimal .ensures .0) (c .before .before .before .before .before .before .add-pending .ensures .0)) (c .before .before .add-stage .ensures)
 
 pub add-marks-spec : {M : Type 1} → statement M
 add-marks-spec =

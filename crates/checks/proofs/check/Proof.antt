@@ -10,7 +10,7 @@ frame-order-requires : tie.Need-frame-order-requires
 frame-order-requires c κs = tt
 
 returns : tie.Need-returns
-returns c = frame-refused _ (now (c .before .before .before .before .args .frame)) (c .before .before .asked .ensures) (c .before .frame-order .ensures) (c .if1 .taken)
+returns c = frame-refused _ _ (now (c .before .before .before .before .args .frame)) (c .before .before .asked .ensures) (c .before .frame-order .ensures) (c .if1 .taken)
 
 byte-at-requires : tie.Need-byte-at-requires
 byte-at-requires c κs = tt
@@ -27,7 +27,7 @@ command-order-requires c κs = tt
 returns-2 : tie.Need-returns-2
 returns-2 c =
     let f = c .before .before .before .before .before in
-    frame-passed _ (now (f .before .before .before .args .frame)) (f .before .asked .ensures) (f .frame-order .ensures) (c .before .before .before .before .if1 .left) (c .before .before .before .byte-at .ensures) (c .before .before .data .ensures) (c .before .asked2 .ensures) (c .command-order .ensures)
+    frame-passed _ _ (now (f .before .before .before .args .frame)) (f .before .asked .ensures) (f .frame-order .ensures) (c .before .before .before .before .if1 .left) (c .before .before .before .byte-at .ensures) (c .before .before .data .ensures) (c .before .asked2 .ensures) (c .command-order .ensures)
 
 pub check-spec : {M : Type 1} → statement M
 check-spec =

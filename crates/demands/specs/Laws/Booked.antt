@@ -3,6 +3,7 @@ use Prim.Native.Nat.{ℕ}
 use mathlib.Core.Bool.{Bool, true, false}
 use mathlib.Core.List.{List, []}
 use mathlib.Core.Path.{_≡_, refl, _∙_, ap}
+use borrow.Author.Tests.{eqb-true, eq-eqb}
 use lib.Dec.{eqb}
 use lib.IntN.{ℤ}
 use Rattle.tables.specs.Choice.{pick}
@@ -12,16 +13,17 @@ use Rattle.frames.specs.Frame.{insOf, dataOf}
 use Rattle.columns.specs.Table.{commitTransaction}
 use Rattle.rows.specs.State.{State}
 use Rattle.channel.specs.declared.Inputs.{Inputs}
-use Rattle.rows.specs.Rows.{ok, statusOf}
+use Rattle.rows.specs.Rows.{ok, statusOf, openingStatus, bytesStatus}
 use Rattle.effects.specs.Effects.{purseAfter, journalAfter}
-use Rattle.card.specs.Events.{changed, ended, refused, acceptedPlain, accepted, played, withSession}
-use Rattle.demands.specs.Strike.{Line, broken, strike, part, through}
+use Rattle.card.specs.Events.{changed, ended, Played, refused, acceptedPlain, accepted, judged, played, opening, openingPlayed, delivered, bytesPlayed, withSession}
+use Rattle.demands.specs.Strike.{Line, broken, idle, strike, part, through}
 use Rattle.demands.specs.Books.{Op, valueAfter, Books, booked}
-use Rattle.demands.specs.History.{Handed, Event, command, session, power, run, along, bookLine, plainIn, lineBy, booksOf}
+use Rattle.demands.specs.History.{Handed, Event, command, opens, delivers, session, power, run, along, bookLine, plainIn, bookAccount, lineBy, booksOf}
 use Rattle.demands.specs.Laws.Names.{Other, by-name, purse-other, journal-other, book-other}
 use Rattle.demands.specs.Laws.Sound.{Sound, changed-sound, ended-sound, session-sound}
 use Rattle.demands.specs.Laws.Steps.{accepted-cleared, plays, moves}
 use Rattle.demands.specs.Laws.Inside.{Cleared, entry-room}
+use Rattle.demands.specs.Laws.Chained.{opening-announces, opening-sound, carried, delivered-sound}
 use Rattle.demands.specs.Laws.Induct.{Moved, from-rest, flat-part}
 use Rattle.demands.specs.Laws.Posting.{balance, value-sum, allowance-through, log-four}
 use Rattle.demands.specs.Laws.Opened.{OpenPurse, purse-rests, purse-in, purse-out, purse-rebooked, purse-entered, purse-cleared, allowance-booked, OpenLog, log-rests, log-in, log-out, log-rebooked, log-entered, log-cleared, log-booked}
@@ -32,7 +34,7 @@ pub record Open (s : State) (tx : List Op) : Type 0 where
   pub entries : OpenLog (s .core .journal) tx
 
 abbrev Goes : State → List Op → State → Line Op → Type 0
-Goes = Moved moves (lineBy bookLine) booksOf balance Open
+Goes = Moved moves (lineBy bookAccount) booksOf balance Open
 
 -- ---- an accepted command
 
@@ -70,20 +72,27 @@ goes-ended : (s : State) (tx : List Op) → Open s tx → Goes s tx (ended s) br
 unfolding ended purse.dropped journal.dropped
 goes-ended s tx h = (unfold purse.resting journal.resting in refl, record { sound = unfold ended purse.dropped journal.dropped in ended-sound s (h .sound); value = purse-rests _ _; entries = log-rests _ })
 
-goes-played : (s : State) (tx : List Op) → Open s tx → (f : List ℕ) (u : Inputs) (handed : Handed u) → Goes s tx (played s u f .state) (lineBy bookLine s (command f u handed))
-unfolding played refused accepted acceptedPlain lineBy
-goes-played s tx h f u handed = by (eqb (statusOf (s .core) f) ok) refl
+-- by its status, where the accepted event has the line l
+goes-judged : (s : State) (tx : List Op) → Open s tx → (status : ℕ) (p : Played) (l : Line Op) → (status ≡ ok → Goes s tx (p .state) l)
+    → Goes s tx (judged status s p .state) (pick (eqb status ok) l broken)
+unfolding refused
+goes-judged s tx h status p l go = by (eqb status ok) refl
   where
-    by : (b : Bool) → eqb (statusOf (s .core) f) ok ≡ b
-        → Goes s tx (pick b (accepted s u (insOf f) (dataOf f)) (refused s (statusOf (s .core) f)) .state) (pick b (bookLine (insOf f) (plainIn (s .core) f)) broken)
-    by true e = unfold pick in goes-changed s u handed tx (plainIn (s .core) f) h (insOf f) (accepted-cleared s f e)
+    by : (b : Bool) → eqb status ok ≡ b → Goes s tx (pick b p (refused s status) .state) (pick b l broken)
+    by true e = unfold pick in go (eqb-true _ _ e)
     by false e = unfold pick in goes-ended s tx h
 
-goes : (s : State) (tx : List Op) → Open s tx → (e : Event) → Goes s tx (moves s e) (lineBy bookLine s e)
-unfolding plays
-goes s tx h (command f u handed) = goes-played s tx h f u handed
-goes s tx h (session k known) = unfold lineBy withSession in (refl, record { sound = session-sound s k (h .sound) known; value = h .value; entries = h .entries })
-goes s tx h power = unfold lineBy in goes-ended s tx h
+-- nothing of the books, and nothing that is pending
+idles : (s d : State) (tx : List Op) → Open s tx → Sound d → d .core .purse ≡ s .core .purse → d .core .journal ≡ s .core .journal → Goes s tx d idle
+idles s d tx h k p j = (rw (p, j) refl, record { sound = k; value = rw p (h .value); entries = rw j (h .entries) })
+
+goes : (s : State) (tx : List Op) → Open s tx → (e : Event) → Goes s tx (moves s e) (lineBy bookAccount s e)
+unfolding plays lineBy
+goes s tx h (command f u handed) = unfold played in goes-judged s tx h (statusOf (s .core) f) (accepted s u (insOf f) (dataOf f)) _ (λ e. unfold accepted acceptedPlain in goes-changed s u handed tx (plainIn (s .core) f) h (insOf f) (accepted-cleared s f (eq-eqb _ _ e)))
+goes s tx h (opens f) = unfold openingPlayed in goes-judged s tx h (openingStatus (s .core) f) (opening s (dataOf f)) _ (λ e. idles s (opening s (dataOf f) .state) tx h (opening-sound s _ (h .sound) (opening-announces (s .core) f e)) (unfold opening in refl) (unfold opening in refl))
+goes s tx h (delivers b) = unfold bytesPlayed in goes-judged s tx h (bytesStatus (s .core .channel .chain) b) (delivered s b) _ (λ e. idles s (delivered s b .state) tx h (delivered-sound s b (h .sound) (carried (s .core .channel .chain) b e)) (unfold delivered in refl) (unfold delivered in refl))
+goes s tx h (session k known) = idles s (withSession s k) tx h (session-sound s k (h .sound) known) (unfold withSession in refl) (unfold withSession in refl)
+goes s tx h power = goes-ended s tx h
 
 -- ---- any history of a card with nothing pending and nothing booked but a value
 
@@ -98,8 +107,8 @@ booked-through v ls = λ i. record { value = (value-sum start txs ∙ ap (valueA
     txs = part [] (strike ls)
 
 pub books-law : (s : State) (v : ℤ) → Open s [] → booksOf s ≡ record { value = v; allowance = 0; log = [] } → (es : List Event)
-    → booksOf (run moves s es) ≡ booked v (along moves (lineBy bookLine) s es)
+    → booksOf (run moves s es) ≡ booked v (along moves (lineBy bookAccount) s es)
 books-law s v h start es =
-    from-rest moves (lineBy bookLine) booksOf balance Open goes s h es
-    ∙ ap (λ (b : Books). through balance b (part [] (strike (along moves (lineBy bookLine) s es)))) start
-    ∙ booked-through v (along moves (lineBy bookLine) s es)
+    from-rest moves (lineBy bookAccount) booksOf balance Open goes s h es
+    ∙ ap (λ (b : Books). through balance b (part [] (strike (along moves (lineBy bookAccount) s es)))) start
+    ∙ booked-through v (along moves (lineBy bookAccount) s es)

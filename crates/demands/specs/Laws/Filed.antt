@@ -4,7 +4,7 @@ use mathlib.Core.Bool.{Bool, true, false, _||_, false≢true}
 use mathlib.Core.List.{List, [], _∷_}
 use mathlib.Core.Path.{_≡_, refl, sym, _∙_, ap, subst}
 use native.Mathlib.Omega.{arith}
-use borrow.Author.Tests.{eqb-true}
+use borrow.Author.Tests.{eqb-true, eq-eqb}
 use lib.Dec.{eqb}
 use lib.ListN.{length}
 use Rattle.tables.specs.Choice.{pick}
@@ -14,19 +14,19 @@ use Rattle.datafiles.specs.Files as files
 use Rattle.frames.specs.Frame.{insOf, dataOf, fileOf, offsetOf, bytesIn}
 use Rattle.columns.specs.Table.{writeData, isData}
 use Rattle.rows.specs.State.{State}
-use Rattle.channel.specs.declared.Inputs.{Inputs}
-use Rattle.rows.specs.Rows.{ok, statusOf}
+use Rattle.rows.specs.Rows.{ok, statusOf, openingStatus, bytesStatus}
 use Rattle.effects.specs.Effects.{filesAfter}
-use Rattle.card.specs.Events.{changed, ended, refused, acceptedPlain, accepted, played, withSession}
+use Rattle.card.specs.Events.{changed, ended, Played, refused, acceptedPlain, accepted, judged, played, opening, openingPlayed, delivered, bytesPlayed, withSession}
 use Rattle.demands.specs.Strike.{Line, posted, broken, idle, posts, through}
 use Rattle.demands.specs.DataFiles.{Write, stored}
-use Rattle.demands.specs.History.{Handed, Event, command, session, power, run, along, fileLine, plainIn, lineBy}
+use Rattle.demands.specs.History.{Event, command, opens, delivers, session, power, run, along, fileLine, plainIn, writeOf, fileAccount, lineBy}
 use Rattle.demands.specs.Laws.Sound.{Sound, Sized}
 use Rattle.demands.specs.Laws.Steps.{accepted-cleared, plays, moves, moves-sound}
 use Rattle.demands.specs.Laws.Inside.{Cleared, write-room}
+use Rattle.demands.specs.Laws.Chained.{carried, ranged, bytes-room}
 
 -- what holds of the three files' numbers
-by-file : (P : ℕ → Type 0) → P 0x00 → P 0x04 → P 0x1F → (n : ℕ) → isData n ≡ true → P n
+pub by-file : (P : ℕ → Type 0) → P 0x00 → P 0x04 → P 0x1F → (n : ℕ) → isData n ≡ true → P n
 by-file P p q r n = at-00 (eqb n 0x00) refl
   where
     is : (k : ℕ) → P k → eqb n k ≡ true → P n
@@ -45,7 +45,7 @@ by-file P p q r n = at-00 (eqb n 0x00) refl
     at-00 false e t = at-04 (eqb n 0x04) refl t
 
 module _ (f : Files) (h : Sized f) (at : ℕ) (x : List ℕ) where
-  written-stored : (n : ℕ) → isData n ≡ true → at + length x ≤ files.sizeOf n → files.written f n at x ≡ stored f (record { file = n; place = at; bytes = x })
+  pub written-stored : (n : ℕ) → isData n ≡ true → at + length x ≤ files.sizeOf n → files.written f n at x ≡ stored f (record { file = n; place = at; bytes = x })
   unfolding files.written files.sizeOf stored pick
   written-stored =
       by-file (λ n. at + length x ≤ files.sizeOf n → files.written f n at x ≡ stored f (record { file = n; place = at; bytes = x }))
@@ -73,24 +73,35 @@ stores-changed s h i d e = by (eqb i writeData) refl
     by true q = unfold pick in stores-write s h d (subst (λ (k : ℕ). Cleared (s .core) k d) (eqb-true i writeData q) e)
     by false q = unfold pick posts through in λ ls. refl
 
-stores-played : (s : State) → Sound s → (f : List ℕ) (u : Inputs) (handed : Handed u) → Stores (s .files) (lineBy fileLine s (command f u handed)) (played s u f .state .files)
-unfolding played refused accepted acceptedPlain lineBy ended changed
-stores-played s h f u handed = by (eqb (statusOf (s .core) f) ok) refl
+-- by its status, where the accepted event has the line l
+stores-judged : (s : State) (status : ℕ) (p : Played) (l : Line Write) → (status ≡ ok → Stores (s .files) l (p .state .files))
+    → Stores (s .files) (pick (eqb status ok) l broken) (judged status s p .state .files)
+unfolding refused ended
+stores-judged s status p l go = by (eqb status ok) refl
   where
-    by : (b : Bool) → eqb (statusOf (s .core) f) ok ≡ b
-        → Stores (s .files) (pick b (fileLine (insOf f) (plainIn (s .core) f)) broken) (pick b (accepted s u (insOf f) (dataOf f)) (refused s (statusOf (s .core) f)) .state .files)
-    by true e = unfold pick in stores-changed s h (insOf f) (plainIn (s .core) f) (accepted-cleared s f e)
+    by : (b : Bool) → eqb status ok ≡ b → Stores (s .files) (pick b l broken) (pick b p (refused s status) .state .files)
+    by true e = unfold pick in go (eqb-true _ _ e)
     by false e = unfold pick posts in λ ls. refl
 
-stores : (s : State) → Sound s → (e : Event) → Stores (s .files) (lineBy fileLine s e) (moves s e .files)
-unfolding plays
-stores s h (command f u handed) = stores-played s h f u handed
-stores s h (session k known) = unfold lineBy withSession posts in λ ls. refl
-stores s h power = unfold lineBy ended posts in λ ls. refl
+stores-bytes : (s : State) → Sound s → (b : List ℕ) → bytesStatus (s .core .channel .chain) b ≡ ok → Stores (s .files) (posted (writeOf (s .core .channel .chain) b)) (delivered s b .state .files)
+unfolding delivered posts through
+stores-bytes s h b e ls =
+    let k = s .core .channel .chain in
+    let c = carried k b e in
+    let r = ranged k (h .channel .chain) (c .opened) in
+    ap (λ (x : Files). through stored x (posts ls)) (written-stored (s .files) (h .files) _ b (k .file) (r .file) (bytes-room k (length b) r c))
+
+stores : (s : State) → Sound s → (e : Event) → Stores (s .files) (lineBy fileAccount s e) (moves s e .files)
+unfolding plays lineBy
+stores s h (command f u handed) = unfold played in stores-judged s (statusOf (s .core) f) (accepted s u (insOf f) (dataOf f)) _ (λ e. unfold accepted acceptedPlain changed in stores-changed s h (insOf f) (plainIn (s .core) f) (accepted-cleared s f (eq-eqb _ _ e)))
+stores s h (opens f) = unfold openingPlayed in stores-judged s (openingStatus (s .core) f) (opening s (dataOf f)) _ (λ e. unfold opening posts in λ ls. refl)
+stores s h (delivers b) = unfold bytesPlayed in stores-judged s (bytesStatus (s .core .channel .chain) b) (delivered s b) _ (stores-bytes s h b)
+stores s h (session k known) = unfold withSession posts in λ ls. refl
+stores s h power = unfold ended posts in λ ls. refl
 
 -- ---- any history
 
-pub files-law : (s : State) → Sound s → (es : List Event) → run moves s es .files ≡ through stored (s .files) (posts (along moves (lineBy fileLine) s es))
+pub files-law : (s : State) → Sound s → (es : List Event) → run moves s es .files ≡ through stored (s .files) (posts (along moves (lineBy fileAccount) s es))
 unfolding run along
 files-law s h [] = unfold posts through in refl
-files-law s h (e ∷ es) = files-law (moves s e) (moves-sound s e h) es ∙ stores s h e (along moves (lineBy fileLine) (moves s e) es)
+files-law s h (e ∷ es) = files-law (moves s e) (moves-sound s e h) es ∙ stores s h e (along moves (lineBy fileAccount) (moves s e) es)

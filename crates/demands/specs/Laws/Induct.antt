@@ -3,7 +3,7 @@ use mathlib.Core.Bool.{Bool, true, false}
 use mathlib.Core.List.{List, [], _∷_, _++_, append-assoc}
 use mathlib.Core.Path.{_≡_, refl, _∙_, ap}
 use Rattle.tables.specs.Choice.{pick}
-use Rattle.demands.specs.Strike.{Line, posted, closed, broken, idle, followed, strike, posts, part, through}
+use Rattle.demands.specs.Strike.{Line, posted, closed, broken, idle, followed, strike, posts, part, through, flat}
 use Rattle.demands.specs.History.{run, along}
 
 pick-same : {X : Type 0} (b : Bool) → pick {A = List X} b [] [] ≡ []
@@ -48,10 +48,6 @@ module _ {S E X B : Type 0} (step : S → E → S) (lineOf : S → E → Line X)
     from-rest s h es = rw (pick-same (followed (along step lineOf s es))) at (from-open s [] h es)
 
 -- ---- the operations of the transactions are those of the struck list
-
-unfoldable pub flat : {X : Type 0} → List (List X) → List X
-flat [] = []
-flat (tx ∷ txs) = tx ++ flat txs
 
 module _ {X : Type 0} where
   flat-open : (tx : List X) (ls : List (Line X)) → flat (part (pick (followed ls) tx []) (strike ls)) ≡ pick (followed ls) tx [] ++ posts (strike ls)

@@ -17,13 +17,13 @@ use Rattle.frames.specs.Frame.{fileOf, offsetOf, lengthOf, bytesIn, keyIn}
 use Rattle.columns.specs.Table.{writeData, writeRecord, authenticateFirst, isData, onFile, suits}
 use Rattle.rows.specs.State.{Core}
 use Rattle.modes.specs.Modes.{accessFor, macSize, plainOf}
-use Rattle.rows.specs.Rows.{lengthCases, wrongLength, otherKindOrNever, switchedOff, parameterCases, badParameter, outside, macedIn, rowsOf, ok, commandStatus}
+use Rattle.rows.specs.Rows.{sentOf, lengthCases, wrongLength, otherKindOrNever, switchedOff, parameterCases, badParameter, outside, macedIn, rowsFor, ok, commandStatus}
 use Rattle.rows.specs.Laws.{command-clear, inside, long-enough, write-inside, entry-inside}
 
 -- of the INS i and the data field d
 pub record Cleared (c : Core) (i : ℕ) (d : List ℕ) : Type 0 where
   pub inside : outside (c .settings .limits) (c .purse) (length (c .journal .entries)) i d ≡ false
-  pub long : wrongLength i d ≡ false
+  pub long : wrongLength false i d ≡ false
   pub on : switchedOff i (c .settings .limited) (c .journal .clears) ≡ false
   pub sound : badParameter i d ≡ false
   pub file : i ≡ writeData → isData (fileOf d) ≡ true
@@ -41,32 +41,32 @@ or-false-false true e = refl
 or-false-false false e = e
 
 -- a write's length field is the number of bytes sent
-write-long : (d : List ℕ) → wrongLength writeData d ≡ false → length d ≡ lengthOf d + 7
-unfolding lengthCases
-write-long d w = let n : not (eqb (length d) (lengthOf d + 7)) ≡ false = search (none (lengthCases writeData d) w) in eqb-true _ _ (not-false _ n)
+pub write-long : (d : List ℕ) → wrongLength false writeData d ≡ false → length d ≡ lengthOf d + 7
+unfolding lengthCases sentOf
+write-long d w = let n : not (eqb (length d) (lengthOf d + 7)) ≡ false = search (none (lengthCases false writeData d) w) in eqb-true _ _ (not-false _ n)
 
-module _ (c : Core) (i : ℕ) (x : List ℕ) (e : commandStatus c i x ≡ ok) where
+module _ (c : Core) (i : ℕ) (x : List ℕ) (e : commandStatus false c i x ≡ ok) where
   abbrev plain : List ℕ
   plain = plainOf (macedIn c i x) x
 
   write-file : i ≡ writeData → isData (fileOf plain) ≡ true
-  unfolding rowsOf otherKindOrNever onFile suits
+  unfolding rowsFor otherKindOrNever onFile suits
   write-file q =
-      let k : otherKindOrNever i (fileOf x) (accessFor (c .settings) (c .channel .stage) i x) ≡ false = command-clear c i x e .1 .1 .1 .1 .0 in
+      let k : otherKindOrNever i (fileOf x) (accessFor (c .settings) (c .channel .stage) i x) ≡ false = command-clear false c i x e .1 .1 .1 .1 .0 in
       let w : otherKindOrNever writeData (fileOf x) (accessFor (c .settings) (c .channel .stage) i x) ≡ false = subst (λ (j : ℕ). otherKindOrNever j (fileOf x) (accessFor (c .settings) (c .channel .stage) i x) ≡ false) q k in
       let t : suits writeData (fileOf x) ≡ true = not-false _ (or-no (not (suits writeData (fileOf x))) _ w .0) in
-      let l = write-long plain (subst (λ (j : ℕ). wrongLength j plain ≡ false) q (long-enough c i x e .0)) in
+      let l = write-long plain (subst (λ (j : ℕ). wrongLength false j plain ≡ false) q (long-enough false c i x e .0)) in
       subst (λ (n : ℕ). isData n ≡ true) (sym (file-plain (macedIn c i x) x (omega arith))) (or-false-false _ t)
 
   pub cleared : Cleared c i plain
-  unfolding rowsOf
+  unfolding rowsFor
   cleared =
-      let n = command-clear c i x e in
+      let n = command-clear false c i x e in
       record {
-        inside = inside c i x e .0;
-        long = long-enough c i x e .0;
-        on = n .1 .1 .1 .1 .1 .1 .1 .0;
-        sound = n .1 .1 .1 .1 .1 .1 .1 .1 .0;
+        inside = inside false c i x e .0;
+        long = long-enough false c i x e .0;
+        on = n .1 .1 .1 .1 .1 .1 .1 .1 .0;
+        sound = n .1 .1 .1 .1 .1 .1 .1 .1 .1 .0;
         file = write-file;
       }
 
@@ -82,9 +82,9 @@ room size d q o =
 
 module _ (c : Core) (d : List ℕ) where
   pub entry-room : Cleared c writeRecord d → offsetOf d + length (bytesIn d) ≤ entrySize
-  unfolding lengthCases
+  unfolding lengthCases sentOf
   entry-room h =
-      let n : not (eqb (length d) (lengthOf d + 7)) ≡ false = search (none (lengthCases writeRecord d) (h .long)) in
+      let n : not (eqb (length d) (lengthOf d + 7)) ≡ false = search (none (lengthCases false writeRecord d) (h .long)) in
       room _ d (eqb-true _ _ (not-false _ n)) (entry-inside _ _ _ d (h .inside))
 
   pub write-room : Cleared c writeData d → offsetOf d + length (bytesIn d) ≤ sizeOf (fileOf d)

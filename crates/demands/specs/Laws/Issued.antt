@@ -5,6 +5,7 @@ use mathlib.Core.Path.{_≡_, refl}
 use native.Mathlib.Omega.{arith}
 use borrow.Author.Tests.{not-false}
 use lib.IntN.{ℤ}
+use Rattle.tables.specs.Choice.{pick}
 use Rattle.tables.specs.Reasons.{Reason, _when_, no-reason}
 use Rattle.datafiles.specs.Files as files
 use Rattle.limits.specs.Limits.{crossed, within}
@@ -14,11 +15,12 @@ use Rattle.logbook.specs.View as log
 use Rattle.logbook.specs.Journal as journal
 use Rattle.logbook.specs.Laws as logbook
 use Rattle.keys.specs.declared.Keys.{Keys}
+use Rattle.chains.specs.Chain.{unchained, chainSound}
 use Rattle.channel.specs.Channel.{bare}
 use Rattle.settings.specs.declared.Settings.{Settings}
 use Rattle.settings.specs.Settings.{rightsBroken}
 use Rattle.card.specs.View.{view}
-use Rattle.standing.specs.Parts.{logBroken, joined}
+use Rattle.standing.specs.Parts.{logBroken, chainBroken, joined}
 use Rattle.standing.specs.Rules.{orderRefusal}
 use Rattle.card.specs.Events.{issued}
 use Rattle.demands.specs.History.{booksOf}
@@ -32,12 +34,12 @@ module _ (s : Settings) (ks : Keys) (v : ℤ) (e : Taken s v) where
   reasons = (1 when rightsBroken s) ∷ (2 when crossed (s .limits)) ∷ (3 when not (within (s .limits) v)) ∷ []
 
   pub issued-kept : Kept (issued s ks v)
-  unfolding issued orderRefusal reasons logBroken log.empty files.zeros journal.blank bare
+  unfolding issued orderRefusal reasons logBroken chainBroken log.empty files.zeros journal.blank bare unchained chainSound pick
   issued-kept =
       let n = no-reason reasons 0 refl e in
       let figures = rules-laws.resting-sound (s .limits) v 0 false (not-false _ (n .1 .1 .0)) (omega arith) in
       record {
-        rules = joined _ _ _ _ (n .0, (n .1 .0, (refl, (refl, (rules-laws.unbroken figures, tt)))));
+        rules = joined _ _ _ _ _ (n .0, (n .1 .0, (refl, (refl, (rules-laws.unbroken figures, (refl, tt))))));
         f00 = refl;
         f04 = refl;
         f1f = refl;

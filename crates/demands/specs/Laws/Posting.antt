@@ -10,8 +10,7 @@ use lib.ListN.{take, replicate}
 use lib.Seq.{take-take}
 use Rattle.tables.specs.Choice.{pick}
 use Rattle.demands.specs.Books.{Op, paid-in, paid-out, rebooked, entered, cleared, inflow, outflow, isEntry, isClear, sum, some, valueAfter, allowanceAfter, overwritten, entriesAfter, Books}
-use Rattle.demands.specs.Strike.{through}
-use Rattle.demands.specs.Laws.Induct.{flat}
+use Rattle.demands.specs.Strike.{through, flat}
 
 pub sum-snoc : (f : Op → ℕ) (tx : List Op) (o : Op) → sum f (tx ++ (o ∷ [])) ≡ sum f tx + f o
 unfolding sum

@@ -57,7 +57,7 @@ unfolding secondShown
 second-shown ks c d h e = replied-length (partKey ks c) (c .ti) (c .caps) _ (h .ti) (h .caps) (brought-length (partKey ks c) d e)
 
 -- x is the data field as sent, k the channel after
-pub reply-room : (s : State) (u : Inputs) → Handed u → (i : ℕ) (x : List ℕ) (k : Channel) → Sound s → commandStatus (s .core) i x ≡ ok
+pub reply-room : (s : State) (u : Inputs) → Handed u → (i : ℕ) (x : List ℕ) (k : Channel) → Sound s → commandStatus false (s .core) i x ≡ ok
     → length (shown s u i (plainOf (macedIn (s .core) i x) x) ++ macBehind (macedIn (s .core) i x) k (shown s u i (plainOf (macedIn (s .core) i x) x))) ≤ 256
 unfolding shown
 reply-room s u handed i x k h e =
@@ -68,5 +68,5 @@ reply-room s u handed i x k h e =
     let small : (y : List ℕ) → length y + pick m 8 0 ≤ 256 → Small y = λ y r. omega (arith, r, length-append y (macBehind m k y), mac-length m k y) in
     pick-cases Small _ _ _ (λ t. small (firstShown (s .core .keys) u d) (omega (arith, most, first-length (s .core .keys) u d handed)))
     (λ _. pick-cases Small _ _ _
-    (λ t. small (secondShown (s .core .keys) (s .core .channel) d) (omega (arith, most, second-shown (s .core .keys) (s .core .channel) d (h .channel) (second-length d (subst (λ (j : ℕ). wrongLength j d ≡ false) (eqb-true i authenticateSecond t) (long-enough (s .core) i x e .0))))))
-    (λ _. small (baseShown s i d) (shown-small m s i d (h .journal) (inside (s .core) i x e))))
+    (λ t. small (secondShown (s .core .keys) (s .core .channel) d) (omega (arith, most, second-shown (s .core .keys) (s .core .channel) d (h .channel) (second-length false d (subst (λ (j : ℕ). wrongLength false j d ≡ false) (eqb-true i authenticateSecond t) (long-enough false (s .core) i x e .0))))))
+    (λ _. small (baseShown s i d) (shown-small m s i d (h .journal) (inside false (s .core) i x e))))

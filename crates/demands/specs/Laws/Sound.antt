@@ -23,11 +23,12 @@ use Rattle.logbook.specs.FitLaws.{fit-written, fit-cleared, fit-settled, fit-dr
 use Rattle.access.specs.declared.Session.{Session}
 use Rattle.access.specs.declared.Session.the-variants.{Nobody, Key}
 use Rattle.wire.specs.Listed.{length-filled}
+use Rattle.chains.specs.Chain.{unchained, isOpen, chainSound}
 use Rattle.channel.specs.declared.Stage.{Stage}
 use Rattle.channel.specs.declared.Stage.the-variants.{Closed, Bench, Waiting, Real}
 use Rattle.channel.specs.declared.Channel.{Channel}
 use Rattle.channel.specs.declared.Inputs.{Inputs}
-use Rattle.channel.specs.Channel.{stageOf, stageSound, stageKey, countedUp, counted, bare}
+use Rattle.channel.specs.Channel.{stageOf, stageSound, isWaiting, stageKey, countedUp, counted, bare}
 use Rattle.cmac.specs.Laws.{length-cmac}
 use Rattle.derivation.specs.Derivation.{macKey}
 use Rattle.handshake.specs.Handshake.{capsOf}
@@ -49,12 +50,14 @@ pub record Sized (f : Files) : Type 0 where
   pub f04 : length (f .f04) ≡ 256
   pub f1f : length (f .f1f) ≡ 32
 
--- the key of a session is 0 to 4, and its bytes have their sizes
+-- the key of a session is 0 to 4, its bytes have their sizes, and an open chain lies inside its file, with no first part waiting
 pub record Fitting (k : Channel) : Type 0 where
   pub known : stageSound (k .stage) ≡ true
   pub secret : length (k .secret) ≡ 16
   pub ti : length (k .ti) ≡ 4
   pub caps : length (k .caps) ≡ 6
+  pub chain : chainSound (k .chain) ≡ true
+  pub free : (isOpen (k .chain) && isWaiting (k .stage)) ≡ false
 
 -- a new entry and a clear are never pending together
 abbrev pub both : Journal → Bool
@@ -111,7 +114,7 @@ length-laidIn : (b : List ℕ) (at : ℕ) (x : List ℕ) → length (laidIn b at
 unfolding laidIn
 length-laidIn b at x = pick-cases (λ (y : List ℕ). length y ≡ length b) (leb (at + length x) (length b)) (laid b at x) b (λ t. length-laid b at x (leb-true (at + length x) (length b) t)) (λ t. refl)
 
-written-sized : (f : Files) (n at : ℕ) (x : List ℕ) → Sized f → Sized (files.written f n at x)
+pub written-sized : (f : Files) (n at : ℕ) (x : List ℕ) → Sized f → Sized (files.written f n at x)
 unfolding files.written
 written-sized f n at x h =
     pick-both Sized _ _ _ (record { f00 = length-laidIn (f .f00) at x ∙ h .f00; f04 = h .f04; f1f = h .f1f })
@@ -124,9 +127,13 @@ files-kept f i d h = pick-both Sized _ _ _ (written-sized f _ _ _ h) h
 
 -- ---- the channel
 
+pub no-chain : chainSound unchained ≡ true
+unfolding chainSound unchained pick
+no-chain = refl
+
 pub bare-fitting : (g : Stage) → stageSound g ≡ true → Fitting (bare g)
-unfolding bare
-bare-fitting g e = record { known = e; secret = refl; ti = refl; caps = refl }
+unfolding bare unchained
+bare-fitting g e = record { known = e; secret = refl; ti = refl; caps = refl; chain = unfold unchained in no-chain; free = refl }
 
 bench-sound : (k : Session) → sessionSound k ≡ true → stageSound (stageOf k) ≡ true
 bench-sound Nobody e = refl
@@ -144,14 +151,25 @@ counted-sound (Bench k) e = e
 counted-sound (Waiting k) e = e
 counted-sound (Real k n) e = e
 
+counted-waits : (g : Stage) → isWaiting (countedUp g) ≡ isWaiting g
+counted-waits Closed = refl
+counted-waits (Bench k) = refl
+counted-waits (Waiting k) = refl
+counted-waits (Real k n) = refl
+
+pub counted-fitting : (k : Channel) → Fitting k → Fitting (counted k)
+unfolding counted
+counted-fitting k h =
+    record { known = counted-sound (k .stage) (h .known); secret = h .secret; ti = h .ti; caps = h .caps; chain = h .chain; free = rw (counted-waits (k .stage)) (h .free) }
+
 channel-kept : (c : Core) (u : Inputs) (i : ℕ) (d : List ℕ) → Handed u → Fitting (c .channel) → Cleared c i d → Fitting (channelAfter (c .keys) u i d (c .channel))
 unfolding channelAfter
 channel-kept c u i d handed h e =
     pick-cases Fitting _ _ _
-    (λ t. unfold begun capsOf in record { known = key-named c d (subst (λ (j : ℕ). Cleared c j d) (eqb-true i authenticateFirst t) e); secret = handed .random; ti = handed .ti; caps = length-filled 6 (drop 2 d) })
+    (λ t. unfold begun capsOf in record { known = key-named c d (subst (λ (j : ℕ). Cleared c j d) (eqb-true i authenticateFirst t) e); secret = handed .random; ti = handed .ti; caps = length-filled 6 (drop 2 d); chain = no-chain; free = unfold unchained in refl })
     (λ _. pick-cases Fitting _ _ _
-    (λ t. unfold opened macKey in record { known = key-sound (c .channel .stage) (h .known); secret = length-cmac _ _; ti = h .ti; caps = refl })
-    (λ _. unfold counted in record { known = counted-sound (c .channel .stage) (h .known); secret = h .secret; ti = h .ti; caps = h .caps }))
+    (λ t. unfold opened macKey in record { known = key-sound (c .channel .stage) (h .known); secret = length-cmac _ _; ti = h .ti; caps = refl; chain = no-chain; free = unfold unchained in refl })
+    (λ _. counted-fitting (c .channel) h))
 
 -- ---- the new entry, or e where there is none
 

@@ -4,7 +4,7 @@ use mathlib.Core.Bool.{Bool, true, false}
 use mathlib.Core.List.{List, [], _∷_}
 use mathlib.Core.Path.{_≡_, refl, sym, _∙_, ap}
 use native.Mathlib.Omega.{arith}
-use borrow.Author.Tests.{not-false, le-ltb, eqb-true}
+use borrow.Author.Tests.{not-false, le-ltb, eq-eqb, eqb-true}
 use lib.Dec.{eqb, ltb}
 use lib.ListN.{length}
 use Rattle.tables.specs.Choice.{pick, pick-cases, passed, not-no, or-no, or-none}
@@ -17,19 +17,20 @@ use Rattle.logbook.specs.View as log
 use Rattle.logbook.specs.Laws as logbook
 use Rattle.logbook.specs.FitLaws.{fit-view, joined-room}
 use Rattle.rows.specs.State.{State, logPending}
-use Rattle.rows.specs.Rows.{ok, statusOf}
+use Rattle.rows.specs.Rows.{ok, statusOf, openingStatus, bytesStatus}
 use Rattle.rows.specs.Laws.{command-ok}
 use Rattle.card.specs.declared.Card.{Card}
 use Rattle.card.specs.View.{view, put}
-use Rattle.standing.specs.Parts.{logBroken, log-few, parted, joined}
+use Rattle.standing.specs.Parts.{logBroken, chainBroken, log-few, parted, joined}
 use Rattle.card.specs.Outcome.{Outcome}
-use Rattle.card.specs.Events.{Played, ended, refused, acceptedPlain, accepted, played, laidInto, withSession, sessionChanged, poweredUp}
+use Rattle.card.specs.Events.{Played, ended, refused, acceptedPlain, accepted, judged, played, laidInto, opening, openingPlayed, chainOpened, delivered, bytesPlayed, bytesSent, withSession, sessionChanged, poweredUp}
 use Rattle.commands.specs.PlacesLaws.{pending-view}
-use Rattle.card.specs.Laws.{command-plays}
-use Rattle.demands.specs.History.{Handed, Event, command, session, power, outcome, next, run, along, plainIn}
+use Rattle.card.specs.Laws.{bench-plays, command-plays}
+use Rattle.demands.specs.History.{Handed, Event, command, opens, delivers, session, power, outcome, next, run, along, plainIn}
 use Rattle.demands.specs.Demands.{Kept}
 use Rattle.demands.specs.Laws.Sound.{Sound, fresh-sized, changed-sound, ended-sound, session-sound}
 use Rattle.demands.specs.Laws.Inside.{Cleared, cleared}
+use Rattle.demands.specs.Laws.Chained.{opening-announces, opening-sound, carried, delivered-sound}
 use Rattle.channel.specs.declared.Inputs.{Inputs}
 use Rattle.frames.specs.Frame.{insOf, dataOf}
 
@@ -44,13 +45,14 @@ some-view l = by (l .adds)
     by false = refl
 
 pub sound-view : (c : Card) → Kept c → Sound (view c)
-unfolding view log.view logBroken
+unfolding view log.view logBroken chainBroken
 sound-view c h =
-    let n = parted (c .settings) (c .purse) (c .log) (c .channel .stage) (h .rules) in
+    let n = parted (c .settings) (c .purse) (c .log) (c .channel .stage) (c .channel .chain) (h .rules) in
+    let chain = or-no _ _ (n .1 .1 .1 .1 .1 .0) in
     record {
       rights = n .0;
       limits = n .1 .0;
-      channel = record { known = not-false _ (n .1 .1 .0); secret = h .secret; ti = h .ti; caps = h .caps };
+      channel = record { known = not-false _ (n .1 .1 .0); secret = h .secret; ti = h .ti; caps = h .caps; chain = not-false _ (chain .0); free = chain .1 };
       figures = rw (pending-view (c .log)) (rules-laws.sound (n .1 .1 .1 .1 .0));
       journal = fit-view (c .log) (log-few (c .log) (n .1 .1 .1 .0)) (h .slots) (h .entry);
       apart = rw (some-view (c .log)) (or-no (ltb 4 (c .log .count)) _ (n .1 .1 .1 .0) .1);
@@ -60,11 +62,11 @@ sound-view c h =
 -- a sound state, laid into a card, is a card that keeps the rules and stands for that state
 
 pub put-kept : (c : Card) (s : State) → Kept c → Sound s → Kept (put c s)
-unfolding put log.put logBroken logPending
+unfolding put log.put logBroken logPending chainBroken
 put-kept c s k h =
     let room = joined-room (s .core .journal) (h .journal) in
     record {
-      rules = joined _ _ _ _ (h .rights, (h .limits, (not-no _ (h .channel .known), (or-none _ _ (le-ltb 4 (length (s .core .journal .entries)) (h .journal .few)) (h .apart), (rules-laws.unbroken (h .figures), tt)))));
+      rules = joined _ _ _ _ _ (h .rights, (h .limits, (not-no _ (h .channel .known), (or-none _ _ (le-ltb 4 (length (s .core .journal .entries)) (h .journal .few)) (h .apart), (rules-laws.unbroken (h .figures), (or-none _ _ (not-no _ (h .channel .chain)) (h .channel .free), tt))))));
       f00 = h .files .f00;
       f04 = h .files .f04;
       f1f = h .files .f1f;
@@ -83,6 +85,8 @@ view-put c s h = ap (λ (j : Journal). record { core = record { settings = s .co
 
 unfoldable pub plays : State → Event → Played
 plays s (command f u handed) = played s u f
+plays s (opens f) = openingPlayed s f
+plays s (delivers b) = bytesPlayed s b
 plays s (session k known) = record { state = withSession s k; out = [] }
 plays s power = record { state = ended s; out = [] }
 
@@ -92,20 +96,29 @@ moves s e = plays s e .state
 pub outcome-plays : (c : Card) → Kept c → (e : Event) → outcome c e ≡ laidInto c (plays (view c) e)
 unfolding outcome plays sessionChanged poweredUp
 outcome-plays c h (command f u handed) = sym (command-plays c f u 258 (omega arith) (h .rules))
+outcome-plays c h (opens f) = unfold chainOpened in sym (bench-plays c 258 _ (omega arith) (h .rules))
+outcome-plays c h (delivers b) = unfold bytesSent in sym (bench-plays c 258 _ (omega arith) (h .rules))
 outcome-plays c h (session k known) = passed _ _ (not-no _ known) ∙ passed _ _ (h .rules)
 outcome-plays c h power = passed _ _ (h .rules)
 
 -- the data field of an accepted frame
 pub accepted-cleared : (s : State) (f : List ℕ) → eqb (statusOf (s .core) f) ok ≡ true → Cleared (s .core) (insOf f) (plainIn (s .core) f)
-accepted-cleared s f e = cleared (s .core) (insOf f) (dataOf f) (command-ok (s .core) f (eqb-true _ _ e))
+accepted-cleared s f e = cleared (s .core) (insOf f) (dataOf f) (command-ok false (s .core) f (eqb-true _ _ e))
+
+-- by its status
+judged-sound : (s : State) (status : ℕ) (p : Played) → Sound s → (status ≡ ok → Sound (p .state)) → Sound (judged status s p .state)
+unfolding refused
+judged-sound s status p h go = pick-cases (λ (q : Played). Sound (q .state)) (eqb status ok) _ _ (λ e. go (eqb-true _ _ e)) (λ e. ended-sound s h)
 
 played-sound : (s : State) (f : List ℕ) (u : Inputs) → Handed u → Sound s → Sound (played s u f .state)
-unfolding played refused accepted acceptedPlain
-played-sound s f u handed h = pick-cases (λ (p : Played). Sound (p .state)) (eqb (statusOf (s .core) f) ok) _ _ (λ e. changed-sound s u _ _ handed h (accepted-cleared s f e)) (λ e. ended-sound s h)
+unfolding played accepted acceptedPlain
+played-sound s f u handed h = judged-sound s (statusOf (s .core) f) _ h (λ e. changed-sound s u _ _ handed h (accepted-cleared s f (eq-eqb _ _ e)))
 
 pub moves-sound : (s : State) (e : Event) → Sound s → Sound (moves s e)
 unfolding plays
 moves-sound s (command f u handed) h = played-sound s f u handed h
+moves-sound s (opens f) h = unfold openingPlayed in judged-sound s (openingStatus (s .core) f) (opening s (dataOf f)) h (λ e. opening-sound s (dataOf f) h (opening-announces (s .core) f e))
+moves-sound s (delivers b) h = unfold bytesPlayed in judged-sound s (bytesStatus (s .core .channel .chain) b) (delivered s b) h (λ e. delivered-sound s b h (carried (s .core .channel .chain) b e))
 moves-sound s (session k known) h = session-sound s k h known
 moves-sound s power h = ended-sound s h
 

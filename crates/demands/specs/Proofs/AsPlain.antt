@@ -14,16 +14,18 @@ use Rattle.tables.specs.Reasons.{NoReason, none-first}
 use Rattle.wire.specs.Bytes.{word, le3}
 use Rattle.wire.specs.Same.{same-equal}
 use Rattle.access.specs.declared.Access.{Access}
+use Rattle.chains.specs.declared.Chain.{Chain}
+use Rattle.chains.specs.Chain.{isOpen}
 use Rattle.channel.specs.declared.Inputs.{Inputs}
 use Rattle.channel.specs.declared.Stage.{Stage}
 use Rattle.channel.specs.declared.Stage.the-variants.{Bench, Real}
-use Rattle.channel.specs.Channel.{isReal, counterOf, countedUp, counted, bare}
+use Rattle.channel.specs.Channel.{isReal, counterOf, countedUp, counted, bare, chained}
 use Rattle.sealing.specs.Sealing.{sealOf}
 use Rattle.frames.specs.Frame.{insOf, dataOf, fileOf}
 use Rattle.columns.specs.Table.{readData, writeData, getValue, credit, debit, limitedCredit, readRecords, writeRecord, clearRecordFile, getFileSettings, authenticateFirst, authenticateSecond, onFile, namesFile, isBase}
 use Rattle.rows.specs.State.{Core, logPending}
 use Rattle.modes.specs.Modes.{accessFor, macedUnder, plainOf, macOf}
-use Rattle.rows.specs.Rows.{unknownCommand, interrupts, lengthCases, wrongLength, lacksMac, unknownFile, otherKindOrNever, notGranted, partFails, forged, usedUp, switchedOff, badParameter, outside, longRead, nothingPending, macedIn, rowsUnder, rowsOf, ok, statusOf}
+use Rattle.rows.specs.Rows.{unknownCommand, interrupts, sentOf, lengthCases, wrongLength, lacksMac, unknownFile, otherKindOrNever, notGranted, partFails, forged, usedUp, switchedOff, badParameter, outside, longRead, nothingPending, macedIn, rowsUnder, rowsFor, ok, statusFor, statusOf}
 use Rattle.rows.specs.Laws.{clear}
 use Rattle.card.specs.declared.Card.{Card}
 use Rattle.card.specs.View.{view, put, broken, onChannel}
@@ -68,14 +70,14 @@ and-true : (b : Bool) → (b && true) ≡ false → b ≡ false
 and-true false e = refl
 and-true true e = e
 
-names-none : (i : ℕ) → wrongLength i [] ≡ false → namesFile i ≡ false
-unfolding lengthCases le3 namesFile onFile
+names-none : (i : ℕ) → wrongLength false i [] ≡ false → namesFile i ≡ false
+unfolding lengthCases sentOf le3 namesFile onFile
 names-none i e =
-    let (a, (b, (c, (d, (f, (g, (h, (j, (k, (l, (m, (n, o)))))))))))) = none (lengthCases i []) e in
+    let (a, (b, (c, (d, (f, (g, (h, (j, (k, (l, (m, (n, o)))))))))))) = none (lengthCases false i []) e in
     simp (and-true (eqb i readData) a, and-true (eqb i writeData) b, and-true (eqb i getValue) c, and-true (eqb i credit) d, and-true (eqb i debit) f, and-true (eqb i limitedCredit) g, and-true (eqb i readRecords) h, and-true (eqb i writeRecord) j, and-true (eqb i clearRecordFile) k, and-true (eqb i getFileSettings) n)
 
 -- places 7 to 9 do not see what stands behind the data field
-file-rows : (s : Settings) (g : Stage) (i : ℕ) (d t : List ℕ) → wrongLength i d ≡ false
+file-rows : (s : Settings) (g : Stage) (i : ℕ) (d t : List ℕ) → wrongLength false i d ≡ false
     → (unknownFile i (fileOf (d ++ t)) ≡ unknownFile i (fileOf d))
     × (otherKindOrNever i (fileOf (d ++ t)) (accessFor s g i (d ++ t)) ≡ otherKindOrNever i (fileOf d) (accessFor s g i d))
     × (notGranted i (accessFor s g i (d ++ t)) ≡ notGranted i (accessFor s g i d))
@@ -88,13 +90,13 @@ file-rows s g i (a ∷ d) t l = (refl, refl, refl)
 
 -- ---- the rows on both cards
 
-module _ (s : Settings) (ks : Keys) (p : Purse) (j : Journal) (secret ti caps : List ℕ) (k n : ℕ) where
+module _ (s : Settings) (ks : Keys) (p : Purse) (j : Journal) (secret ti caps : List ℕ) (kk : Chain) (k n : ℕ) where
   -- under the real session, and under the bench's
   abbrev real : Core
-  real = record { settings = s; keys = ks; purse = p; journal = j; channel = record { stage = Real k n; secret = secret; ti = ti; caps = caps } }
+  real = record { settings = s; keys = ks; purse = p; journal = j; channel = record { stage = Real k n; secret = secret; ti = ti; caps = caps; chain = kk } }
 
   abbrev benched : Core
-  benched = record { settings = s; keys = ks; purse = p; journal = j; channel = bare (Bench k) }
+  benched = record { settings = s; keys = ks; purse = p; journal = j; channel = chained (bare (Bench k)) kk }
 
   module _ (f g : List ℕ) (i : ℕ) (d : List ℕ) (sf : Sent f i d) (sg : Sent g i (d ++ sealOf secret i n ti d)) (m : macedIn real i (d ++ sealOf secret i n ti d) ≡ true) where
     abbrev t : List ℕ
@@ -120,49 +122,49 @@ module _ (s : Settings) (ks : Keys) (p : Purse) (j : Journal) (secret ti caps : 
     no-second : eqb i authenticateSecond ≡ false
     no-second = maced-base _ s (Real k n) i authenticateSecond x m (second-none _ s (Real k n) x)
 
-    real-rows : rowsOf real g (insOf g) (dataOf g) ≡ rowsUnder (accessFor s (Real k n) i x) true real g i x d
-    unfolding rowsOf
+    real-rows : rowsFor false real g (insOf g) (dataOf g) ≡ rowsUnder false (accessFor s (Real k n) i x) true real g i x d
+    unfolding rowsFor
     real-rows = rw (sg .ins, sg .field, m, plain) refl
 
-    bench-rows : rowsOf benched f (insOf f) (dataOf f) ≡ rowsUnder (accessFor s (Bench k) i d) false benched f i d d
-    unfolding rowsOf macedUnder plainOf pick bare
+    bench-rows : rowsFor false benched f (insOf f) (dataOf f) ≡ rowsUnder false (accessFor s (Bench k) i d) false benched f i d d
+    unfolding rowsFor macedUnder plainOf pick bare chained
     bench-rows = rw (sf .ins, sf .field) refl
 
     -- what both sides ask of the plain data field
     abbrev Shared : Type 0
-    Shared = (unknownCommand (Bench k) i ≡ false) × (wrongLength i d ≡ false) × (unknownFile i (fileOf d) ≡ false)
+    Shared = (unknownCommand false (Bench k) i ≡ false) × (wrongLength false i d ≡ false) × (unknownFile i (fileOf d) ≡ false)
         × (otherKindOrNever i (fileOf d) (accessFor s (Bench k) i d) ≡ false) × (notGranted i (accessFor s (Bench k) i d) ≡ false)
         × (switchedOff i (s .limited) (j .clears) ≡ false) × (badParameter i d ≡ false)
-        × (outside (s .limits) p (length (j .entries)) i d ≡ false) × (nothingPending i (p .moved) (logPending j) ≡ false)
+        × (outside (s .limits) p (length (j .entries)) i d ≡ false) × (nothingPending i (p .moved) (logPending j) ≡ false) × (isOpen kk ≡ false)
 
     bench-ok : Shared → statusOf benched f ≡ ok
-    unfolding statusOf interrupts lacksMac partFails forged usedUp longRead bare
+    unfolding statusFor interrupts lacksMac partFails forged usedUp longRead bare chained
     bench-ok h =
-        none-first (rowsOf benched f (insOf f) (dataOf f)) ok
+        none-first (rowsFor false benched f (insOf f) (dataOf f)) ok
         (subst NoReason (sym bench-rows)
-        (sf .size, (sf .class, (sf .parameters, (sf .frame, (h .0, (refl, (or-none (wrongLength i d) _ (h .1) refl, (h .2, (h .3, (or-none (notGranted i (accessFor s (Bench k) i d)) _ (h .4) (and-left (eqb i authenticateSecond) _ no-second), (and-right (isBase i) false refl, (h .5, (h .6, (or-none (outside (s .limits) p (length (j .entries)) i d) _ (h .7) (and-right (eqb i readData) _ refl), (h .8, tt))))))))))))))))
+        (sf .size, (sf .class, (sf .parameters, (sf .frame, (h .0, (h .9, (or-none (wrongLength false i d) _ (h .1) refl, (h .2, (h .3, (or-none (notGranted i (accessFor s (Bench k) i d)) _ (h .4) (and-left (eqb i authenticateSecond) _ no-second), (refl, (and-right (isBase i) false refl, (h .5, (h .6, (or-none (outside (s .limits) p (length (j .entries)) i d) _ (h .7) (and-right (eqb i readData) _ refl), (h .8, tt)))))))))))))))))
 
     bench-shared : statusOf benched f ≡ ok → Shared
-    unfolding bare
+    unfolding bare chained interrupts
     bench-shared e =
-        let (a1, (a2, (a3, (a4, (a5, (a6, (a7, (a8, (a9, (a10, (a11, (a12, (a13, (a14, (a15, z))))))))))))))) = subst NoReason bench-rows (clear benched f e) in
-        (a5, or-no (wrongLength i d) _ a7 .0, a8, a9, or-no (notGranted i (accessFor s (Bench k) i d)) _ a10 .0, a12, a13, or-no (outside (s .limits) p (length (j .entries)) i d) _ a14 .0, a15)
+        let (a1, (a2, (a3, (a4, (a5, (a6, (a7, (a8, (a9, (a10, (a11, (a12, (a13, (a14, (a15, (a16, z)))))))))))))))) = subst NoReason bench-rows (clear false benched f e) in
+        (a5, or-no (wrongLength false i d) _ a7 .0, a8, a9, or-no (notGranted i (accessFor s (Bench k) i d)) _ a10 .0, a13, a14, or-no (outside (s .limits) p (length (j .entries)) i d) _ a15 .0, a16, a6)
 
     mac-right : forged (real .channel) true i x ≡ false
     unfolding forged
     mac-right = rw (mac, plain) (ap not (same-equal t t refl))
 
     real-ok : Shared → (n ≡ 0xFFFF → ⊥) → longRead true i d ≡ false → statusOf real g ≡ ok
-    unfolding statusOf unknownCommand interrupts lacksMac partFails usedUp
+    unfolding statusFor unknownCommand interrupts lacksMac partFails usedUp
     real-ok h few short =
         let q = file-rows s (Real k n) i d t (h .1) in
         let lx = length-append d t in
         let lt = length-seal secret i n ti d in
-        none-first (rowsOf real g (insOf g) (dataOf g)) ok
+        none-first (rowsFor false real g (insOf g) (dataOf g)) ok
         (subst NoReason (sym real-rows)
-        (sg .size, (sg .class, (sg .parameters, (sg .frame, (h .0, (refl, (or-none (wrongLength i d) _ (h .1) (le-ltb (length x) 8 (omega arith)), (q .0 ∙ h .2, (q .1 ∙ h .3, (or-none (notGranted i (accessFor s (Real k n) i x)) _ (q .2 ∙ h .4) (and-left (eqb i authenticateSecond) _ no-second), (or-none (forged (real .channel) true i x) _ mac-right (and-right (isBase i) _ (ne-eqb n 0xFFFF few)), (h .5, (h .6, (or-none (outside (s .limits) p (length (j .entries)) i d) _ (h .7) short, (h .8, tt))))))))))))))))
+        (sg .size, (sg .class, (sg .parameters, (sg .frame, (h .0, (h .9, (or-none (wrongLength false i d) _ (h .1) (le-ltb (length x) 8 (omega arith)), (q .0 ∙ h .2, (q .1 ∙ h .3, (or-none (notGranted i (accessFor s (Real k n) i x)) _ (q .2 ∙ h .4) (and-left (eqb i authenticateSecond) _ no-second), (refl, (or-none (forged (real .channel) true i x) _ mac-right (and-right (isBase i) _ (ne-eqb n 0xFFFF few)), (h .5, (h .6, (or-none (outside (s .limits) p (length (j .entries)) i d) _ (h .7) short, (h .8, tt)))))))))))))))))
 
-    not-used : unknownCommand (Real k n) i ≡ false → usedUp (Real k n) i ≡ false → n ≡ 0xFFFF → ⊥
+    not-used : unknownCommand false (Real k n) i ≡ false → usedUp (Real k n) i ≡ false → n ≡ 0xFFFF → ⊥
     unfolding unknownCommand usedUp
     not-used known used e =
         let q : (isBase i || eqb i authenticateFirst || (eqb i authenticateSecond && false)) ≡ true = not-false _ known in
@@ -170,13 +172,13 @@ module _ (s : Settings) (ks : Keys) (p : Purse) (j : Journal) (secret ti caps : 
         true≢false (sym (and-both (isBase i) (eqb n 0xFFFF) b (eq-eqb n 0xFFFF e)) ∙ used)
 
     real-shared : statusOf real g ≡ ok → Shared × (n ≡ 0xFFFF → ⊥) × (longRead true i d ≡ false)
-    unfolding unknownCommand
+    unfolding unknownCommand interrupts
     real-shared e =
-        let (a1, (a2, (a3, (a4, (a5, (a6, (a7, (a8, (a9, (a10, (a11, (a12, (a13, (a14, (a15, z))))))))))))))) = subst NoReason real-rows (clear real g e) in
-        let l = or-no (wrongLength i d) _ a7 .0 in
+        let (a1, (a2, (a3, (a4, (a5, (a6, (a7, (a8, (a9, (a10, (a11, (a12, (a13, (a14, (a15, (a16, z)))))))))))))))) = subst NoReason real-rows (clear false real g e) in
+        let l = or-no (wrongLength false i d) _ a7 .0 in
         let q = file-rows s (Real k n) i d t l in
-        let inside = or-no (outside (s .limits) p (length (j .entries)) i d) _ a14 in
-        ((a5, l, sym (q .0) ∙ a8, sym (q .1) ∙ a9, sym (q .2) ∙ or-no (notGranted i (accessFor s (Real k n) i x)) _ a10 .0, a12, a13, inside .0, a15), not-used a5 (or-no (forged (real .channel) true i x) _ a11 .1), inside .1)
+        let inside = or-no (outside (s .limits) p (length (j .entries)) i d) _ a15 in
+        ((a5, l, sym (q .0) ∙ a8, sym (q .1) ∙ a9, sym (q .2) ∙ or-no (notGranted i (accessFor s (Real k n) i x)) _ a10 .0, a13, a14, inside .0, a16, a6), not-used a5 (or-no (forged (real .channel) true i x) _ a12 .1), inside .1)
 
     pub same-status : (statusOf real g ≡ ok) ↔ ((statusOf benched f ≡ ok) × (n ≡ 0xFFFF → ⊥) × (longRead true i d ≡ false))
     same-status = (λ e. let h = real-shared e in (bench-ok (h .0), h .1, h .2), λ h. real-ok (bench-shared (h .0)) (h .1) (h .2))
@@ -196,12 +198,12 @@ module _ (c : Card) (k n : ℕ) (h : Kept c) (eg : c .channel .stage ≡ Real k 
   abbrev frame : List ℕ
   frame = macedFrame c f
 
-  core-real : view c .core ≡ real (c .settings) (c .keys) (c .purse) (log.view (c .log)) (c .channel .secret) (c .channel .ti) (c .channel .caps) k n
+  core-real : view c .core ≡ real (c .settings) (c .keys) (c .purse) (log.view (c .log)) (c .channel .secret) (c .channel .ti) (c .channel .caps) (c .channel .chain) k n
   unfolding view
-  core-real = λ i. record { settings = c .settings; keys = c .keys; purse = c .purse; journal = log.view (c .log); channel = record { stage = eg i; secret = c .channel .secret; ti = c .channel .ti; caps = c .channel .caps } }
+  core-real = λ i. record { settings = c .settings; keys = c .keys; purse = c .purse; journal = log.view (c .log); channel = record { stage = eg i; secret = c .channel .secret; ti = c .channel .ti; caps = c .channel .caps; chain = c .channel .chain } }
 
   plain-sent : Sent f ins field
-  unfolding rowsOf
+  unfolding rowsFor
   plain-sent = let r = sealing .framed in record { size = r .0; class = r .1 .0; parameters = r .1 .1 .0; frame = r .1 .1 .1 .0; ins = refl; field = refl }
 
   -- the frame with its MAC, part by part
@@ -223,7 +225,7 @@ module _ (c : Card) (k n : ℕ) (h : Kept c) (eg : c .channel .stage ≡ Real k 
   in-mode : macedIn (view c .core) ins (field ++ sealBytes) ≡ true
   in-mode = ap (macedIn (view c .core) ins) (sym (maced-sent .field)) ∙ sealing .mode
 
-  mode : macedIn (real (c .settings) (c .keys) (c .purse) (log.view (c .log)) (c .channel .secret) (c .channel .ti) (c .channel .caps) k n) ins (field ++ sealBytes) ≡ true
+  mode : macedIn (real (c .settings) (c .keys) (c .purse) (log.view (c .log)) (c .channel .secret) (c .channel .ti) (c .channel .caps) (c .channel .chain) k n) ins (field ++ sealBytes) ≡ true
   mode = subst (λ (x : Core). macedIn x ins (field ++ sealBytes) ≡ true) core-real in-mode
 
   abbrev Status : Core → Core → Type 0
@@ -232,17 +234,17 @@ module _ (c : Card) (k n : ℕ) (h : Kept c) (eg : c .channel .stage ≡ Real k 
   accepted-alike : Status (view c .core) (view (onBench c k) .core)
   accepted-alike =
       subst (λ (x : Core). Status x (view (onBench c k) .core)) (sym core-real)
-      (unfold view onChannel in same-status (c .settings) (c .keys) (c .purse) (log.view (c .log)) (c .channel .secret) (c .channel .ti) (c .channel .caps) k n f frame ins field plain-sent maced-sent mode)
+      (unfold view onChannel in same-status (c .settings) (c .keys) (c .purse) (log.view (c .log)) (c .channel .secret) (c .channel .ti) (c .channel .caps) (c .channel .chain) k n f frame ins field plain-sent maced-sent mode)
 
   bench-kept : broken (onBench c k) ≡ false
-  unfolding onChannel brokenBy bare
-  bench-kept = subst (λ (g : Stage). brokenBy (c .settings) (c .purse) (c .log) g ≡ false) eg (h .rules)
+  unfolding onChannel brokenBy bare chained
+  bench-kept = subst (λ (g : Stage). brokenBy (c .settings) (c .purse) (c .log) g (c .channel .chain) ≡ false) eg (h .rules)
 
   first-not : eqb ins authenticateFirst ≡ false
-  first-not = no-first (c .settings) (c .keys) (c .purse) (log.view (c .log)) (c .channel .secret) (c .channel .ti) (c .channel .caps) k n f frame ins field plain-sent maced-sent mode
+  first-not = no-first (c .settings) (c .keys) (c .purse) (log.view (c .log)) (c .channel .secret) (c .channel .ti) (c .channel .caps) (c .channel .chain) k n f frame ins field plain-sent maced-sent mode
 
   second-not : eqb ins authenticateSecond ≡ false
-  second-not = no-second (c .settings) (c .keys) (c .purse) (log.view (c .log)) (c .channel .secret) (c .channel .ti) (c .channel .caps) k n f frame ins field plain-sent maced-sent mode
+  second-not = no-second (c .settings) (c .keys) (c .purse) (log.view (c .log)) (c .channel .secret) (c .channel .ti) (c .channel .caps) (c .channel .chain) k n f frame ins field plain-sent maced-sent mode
 
   module _ (u : Inputs) (e : statusOf (view c .core) frame ≡ ok) where
     abbrev shownData : List ℕ
@@ -250,12 +252,12 @@ module _ (c : Card) (k n : ℕ) (h : Kept c) (eg : c .channel .stage ≡ Real k 
 
     maced-sends : sends c frame u ≡ laidInto c (record { state = changed (view c) u ins field; out = shownData ++ (macBehind true (counted (c .channel)) shownData ++ word ok) })
     maced-sends =
-        let plays : accepted (view c) u (insOf frame) (dataOf frame) ≡ acceptedPlain true (view c) u ins field = unfold accepted in rw (maced-sent .ins, maced-sent .field, in-mode, plain (c .settings) (c .keys) (c .purse) (log.view (c .log)) (c .channel .secret) (c .channel .ti) (c .channel .caps) k n f frame ins field plain-sent maced-sent mode) refl in
+        let plays : accepted (view c) u (insOf frame) (dataOf frame) ≡ acceptedPlain true (view c) u ins field = unfold accepted in rw (maced-sent .ins, maced-sent .field, in-mode, plain (c .settings) (c .keys) (c .purse) (log.view (c .log)) (c .channel .secret) (c .channel .ti) (c .channel .caps) (c .channel .chain) k n f frame ins field plain-sent maced-sent mode) refl in
         sym (command-plays c frame u 258 (omega arith) (h .rules)) ∙ sym (plays-accepted c frame u e)
         ∙ ap (laidInto c) (plays ∙ sym (unfold view in base-accepted ins first-not second-not true (view c) u field))
 
     bench-plain : macedIn (view (onBench c k) .core) ins field ≡ false
-    unfolding view onChannel bare macedUnder
+    unfolding view onChannel bare chained macedUnder
     bench-plain = refl
 
     bench-plays : acceptedPlain false (view (onBench c k)) u ins field ≡ accepted (view (onBench c k)) u ins field

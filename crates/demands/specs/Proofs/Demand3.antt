@@ -15,15 +15,16 @@ use Rattle.channel.specs.declared.Inputs.{Inputs}
 use Rattle.channel.specs.Channel.{closed}
 use Rattle.settings.specs.declared.Settings.{Settings}
 use Rattle.rows.specs.State.{State, logPending}
-use Rattle.rows.specs.Rows.{ok, statusOf}
+use Rattle.frames.specs.Frame.{insOf, dataOf}
+use Rattle.rows.specs.Rows.{ok, statusOf, openingStatus, bytesStatus}
 use Rattle.card.specs.declared.Card.{Card}
 use Rattle.card.specs.View.{view}
 use Rattle.card.specs.Outcome.{Outcome, replyOf}
-use Rattle.card.specs.Events.{changed, Played, ended, refused, acceptedPlain, accepted, played, laidInto, withSession, issued}
+use Rattle.card.specs.Events.{changed, Played, ended, refused, acceptedPlain, accepted, judged, played, laidInto, opening, openingPlayed, delivered, bytesPlayed, withSession, issued}
 use Rattle.demands.specs.Strike.{Line, posts, through}
 use Rattle.demands.specs.Books.{booked}
 use Rattle.demands.specs.DataFiles.{Write, filed, stored}
-use Rattle.demands.specs.History.{Event, command, session, power, next, Said, said, run, along, bookLine, fileLine, lineBy, traced, booksOf}
+use Rattle.demands.specs.History.{Event, command, opens, delivers, session, power, next, Said, said, run, along, Account, bookAccount, fileAccount, lineBy, traced, booksOf}
 use Rattle.demands.specs.Demands.{Kept, Taken, reached, Demand3, EqualReplies}
 use Rattle.demands.specs.Laws.Steps.{sound-view, plays, moves, outcome-plays, next-kept, view-next, run-kept, view-run, along-views}
 use Rattle.demands.specs.Laws.Booked.{books-law}
@@ -32,23 +33,24 @@ use Rattle.demands.specs.Laws.Issued.{issued-kept, issued-open, issued-b
 
 -- ---- a history's lines on the card are those on the state
 
-lines-view : {X : Type 0} (acceptedLine : ℕ → List ℕ → Line X) (c : Card) → Kept c → (es : List Event)
-    → traced acceptedLine c es ≡ along moves (lineBy acceptedLine) (view c) es
+lines-view : {X : Type 0} (a : Account X) (c : Card) → Kept c → (es : List Event) → traced a c es ≡ along moves (lineBy a) (view c) es
 unfolding traced
-lines-view acceptedLine c h es = along-views (λ c e. lineBy acceptedLine (view c) e) (lineBy acceptedLine) (λ c h e. refl) c h es
+lines-view a c h es = along-views (λ c e. lineBy a (view c) e) (lineBy a) (λ c h e. refl) c h es
 
 -- ---- settings and keys stay
 
 abbrev Fixed : State → State → Type 0
 Fixed s t = (t .core .settings ≡ s .core .settings) × (t .core .keys ≡ s .core .keys)
 
-fixed-played : (s : State) (f : List ℕ) (u : Inputs) → Fixed s (played s u f .state)
-unfolding played accepted acceptedPlain refused changed ended
-fixed-played s f u = pick-both (λ (p : Played). Fixed s (p .state)) (eqb (statusOf (s .core) f) ok) _ _ (refl, refl) (refl, refl)
+fixed-judged : (s : State) (status : ℕ) (p : Played) → Fixed s (p .state) → Fixed s (judged status s p .state)
+unfolding refused ended
+fixed-judged s status p h = pick-both (λ (q : Played). Fixed s (q .state)) (eqb status ok) _ _ h (refl, refl)
 
 fixed-moves : (s : State) (e : Event) → Fixed s (moves s e)
 unfolding plays
-fixed-moves s (command f u handed) = fixed-played s f u
+fixed-moves s (command f u handed) = unfold played in fixed-judged s (statusOf (s .core) f) (accepted s u (insOf f) (dataOf f)) (unfold accepted acceptedPlain changed in (refl, refl))
+fixed-moves s (opens f) = unfold openingPlayed in fixed-judged s (openingStatus (s .core) f) (opening s (dataOf f)) (unfold opening in (refl, refl))
+fixed-moves s (delivers b) = unfold bytesPlayed in fixed-judged s (bytesStatus (s .core .channel .chain) b) (delivered s b) (unfold delivered in (refl, refl))
 fixed-moves s (session k known) = unfold withSession in (refl, refl)
 fixed-moves s power = unfold ended in (refl, refl)
 
@@ -63,18 +65,18 @@ fixed-run s (e ∷ es) =
 -- ---- from an accepted personalisation
 
 module _ (s : Settings) (ks : Keys) (v : ℤ) (t : Taken s v) (es : List Event) where
-  books : booksOf (view (reached s ks v es)) ≡ booked v (traced bookLine (issued s ks v) es)
+  books : booksOf (view (reached s ks v es)) ≡ booked v (traced bookAccount (issued s ks v) es)
   books =
       ap booksOf (view-run (issued s ks v) (issued-kept s ks v t) es)
       ∙ books-law (view (issued s ks v)) v (issued-open s ks v t) (issued-books s ks v t) es
-      ∙ ap (booked v) (sym (lines-view bookLine (issued s ks v) (issued-kept s ks v t) es))
+      ∙ ap (booked v) (sym (lines-view bookAccount (issued s ks v) (issued-kept s ks v t) es))
 
-  files : reached s ks v es .files ≡ filed (traced fileLine (issued s ks v) es)
+  files : reached s ks v es .files ≡ filed (traced fileAccount (issued s ks v) es)
   unfolding filed view issued zeros
   files =
       ap (λ (x : State). x .files) (view-run (issued s ks v) (issued-kept s ks v t) es)
       ∙ files-law (view (issued s ks v)) (issued-open s ks v t .sound) es
-      ∙ ap (λ (ls : List (Line Write)). through stored zeros (posts ls)) (sym (lines-view fileLine (issued s ks v) (issued-kept s ks v t) es))
+      ∙ ap (λ (ls : List (Line Write)). through stored zeros (posts ls)) (sym (lines-view fileAccount (issued s ks v) (issued-kept s ks v t) es))
 
   settings : reached s ks v es .settings ≡ s
   unfolding view issued

@@ -19,18 +19,18 @@ use Rattle.settings.specs.declared.Settings.{Settings}
 use Rattle.card.specs.declared.Card.{Card}
 use Rattle.card.specs.declared.Reply.{Reply}
 use Rattle.card.specs.Outcome.{Outcome, replyOf, Answered, bench}
-use Rattle.card.specs.Events.{laidInto, commanded, sessionChanged, poweredUp, issued, personalised}
-use Rattle.card.specs.Laws.{answered-as, command-plays, command-short, session-unknown}
-use Rattle.demands.specs.History.{Handed, Event, command, session, power, outcome, next, Said, said, run, along}
+use Rattle.card.specs.Events.{Played, laidInto, benched, commanded, chainOpened, bytesSent, sessionChanged, poweredUp, issued, personalised}
+use Rattle.card.specs.Laws.{answered-as, bench-plays, session-unknown}
+use Rattle.demands.specs.History.{Handed, Event, command, opens, delivers, session, power, outcome, next, Said, said, run, along}
 use Rattle.demands.specs.Demands.{Kept, Taken, Unrefused, InCode}
-use Rattle.demands.specs.Calls.{seen, Ran, done, commands, changes, powers, short, unknown}
+use Rattle.demands.specs.Calls.{seen, Ran, done, commands, openings, frames, changes, powers, short, short-opening, short-frame, unknown}
 use Rattle.demands.specs.Laws.Steps.{plays, outcome-plays, next-kept}
 use Rattle.demands.specs.Laws.Issued.{issued-kept}
+use Rattle.demands.specs.Proofs.Demand1.{demand1, opening-replies, frame-replies}
 
 -- the room of the buffer shows in no outcome, once there is room
-same-room : (c : Card) → Kept c → (f : List ℕ) (u : Inputs) (handed : Handed u) (room : ℕ) → 258 ≤ room → commanded c f u room ≡ outcome c (command f u handed)
-unfolding outcome
-same-room c h f u handed room k = sym (command-plays c f u room k (h .rules)) ∙ command-plays c f u 258 (omega arith) (h .rules)
+same-room : (c : Card) → Kept c → (p : Played) (room : ℕ) → 258 ≤ room → benched c room p ≡ benched c 258 p
+same-room c h p room k = sym (bench-plays c room p k (h .rules)) ∙ bench-plays c 258 p (omega arith) (h .rules)
 
 -- what was laid at the front of a buffer is read there
 read-front : (b x : List ℕ) → take (length x) (laid b 0 x) ≡ x
@@ -76,10 +76,7 @@ power-answers c h r q = (q, rw (silent) (laid-none []))
     silent : poweredUp c .out ≡ []
     silent = unfold outcome plays laidInto in ap (λ (o : Outcome). o .out) (outcome-plays c h power)
 
--- the two bench refusals return the card as it was
-short-same : (c : Card) (f : List ℕ) (u : Inputs) (before after : List ℕ) (r : Reply) → length before < 258 → Answered (commanded c f u (length before)) before after r → r .card ≡ c
-unfolding replyOf bench
-short-same c f u before after r less a = ap (λ (y : Reply). y .card) (a .0 ∙ ap replyOf (sym (command-short c f u (length before) less)))
+-- the bench refusals return the card as it was
 
 unknown-same : (c : Card) (k : Session) (r : Reply) → sessionSound k ≡ false → r ≡ replyOf (sessionChanged c k) → r .card ≡ c
 unknown-same c k r e q = ap (λ (y : Reply). y .card) (q ∙ sym (session-unknown c k (not-yes _ e)))
@@ -90,16 +87,28 @@ follows-from c k es ss d e h = rw e at h
 ran-follows : {c d : Card} {es : List Event} {ss : List Said} → Ran d c es ss → Kept c → Follows c es ss d
 ran-follows done h = unfold run along in (refl, refl)
 ran-follows {c} {d} (commands {es = es} {ss = ss} f u handed before after r room a rest) h =
-    let b : Answered (outcome c (command f u handed)) before after r = answered-as _ _ before after r (same-room c h f u handed (length before) room) a in
+    let b : Answered (outcome c (command f u handed)) before after r = unfold outcome commanded in answered-as _ _ before after r (same-room c h _ (length before) room) a in
     event-follows c d (command f u handed) es ss before after r b (ran-follows rest (kept-after c h (command f u handed) before after r b))
+ran-follows {c} {d} (openings {es = es} {ss = ss} f before after r room a rest) h =
+    let b : Answered (outcome c (opens f)) before after r = unfold outcome chainOpened in answered-as _ _ before after r (same-room c h _ (length before) room) a in
+    event-follows c d (opens f) es ss before after r b (ran-follows rest (kept-after c h (opens f) before after r b))
+ran-follows {c} {d} (frames {es = es} {ss = ss} x before after r room a rest) h =
+    let b : Answered (outcome c (delivers x)) before after r = unfold outcome bytesSent in answered-as _ _ before after r (same-room c h _ (length before) room) a in
+    event-follows c d (delivers x) es ss before after r b (ran-follows rest (kept-after c h (delivers x) before after r b))
 ran-follows {c} {d} (changes {es = es} {ss = ss} k known r q rest) h =
     let b = session-answers c h k known r q in
     event-follows c d (session k known) es ss [] [] r b (ran-follows rest (kept-after c h (session k known) [] [] r b))
 ran-follows {c} {d} (powers {es = es} {ss = ss} r q rest) h =
     let b = power-answers c h r q in
     event-follows c d power es ss [] [] r b (ran-follows rest (kept-after c h power [] [] r b))
-ran-follows {c} {d} {es} {ss} (short f u before after r less a rest) h =
-    let e = short-same c f u before after r less a in
+ran-follows {c} {d} {es} {ss} (short f u handed before after r less a rest) h =
+    let e = demand1 c f u handed before after r a .short less .0 in
+    follows-from c (r .card) es ss d e (ran-follows rest (subst (λ (k : Card). Kept k) (sym e) h))
+ran-follows {c} {d} {es} {ss} (short-opening f before after r less a rest) h =
+    let e = opening-replies c f before after r a .short less .0 in
+    follows-from c (r .card) es ss d e (ran-follows rest (subst (λ (k : Card). Kept k) (sym e) h))
+ran-follows {c} {d} {es} {ss} (short-frame x before after r less a rest) h =
+    let e = frame-replies c x before after r a .short less .0 in
     follows-from c (r .card) es ss d e (ran-follows rest (subst (λ (k : Card). Kept k) (sym e) h))
 ran-follows {c} {d} {es} {ss} (unknown k r q p rest) h =
     let e = unknown-same c k r q p in
@@ -132,9 +141,9 @@ power-silent : (c : Card) → Kept c → seen (replyOf (poweredUp c)) [] ≡ sai
 unfolding said replyOf outcome
 power-silent c h = seen-answered (poweredUp c) [] [] _ (power-answers c h _ refl)
 
-command-seen : (c : Card) (f : List ℕ) (u : Inputs) (handed : Handed u) (before : List ℕ) → seen (replyOf (commanded c f u 258)) (laid before 0 (commanded c f u 258 .out)) ≡ said c (command f u handed)
-unfolding said replyOf outcome
-command-seen c f u handed before = seen-answered (commanded c f u 258) before _ _ (refl, refl)
+event-seen : (c : Card) (e : Event) (before : List ℕ) → seen (replyOf (outcome c e)) (laid before 0 (outcome c e .out)) ≡ said c e
+unfolding said replyOf
+event-seen c e before = seen-answered (outcome c e) before _ _ (refl, refl)
 
 -- what was seen, in the words of said
 seen-as : (c d : Card) (e : Event) (es : List Event) (x y : Said) (ss : List Said) → x ≡ y → Ran d c (e ∷ es) (x ∷ ss) → Ran d c (e ∷ es) (y ∷ ss)
@@ -143,6 +152,8 @@ seen-as c d e es x y ss q h = subst (λ (z : Said). Ran d c (e ∷ es) (z ∷ ss
 pub runs : (c : Card) → Kept c → (es : List Event) → Ran (run next c es) c es (along next said c es)
 unfolding run along outcome replyOf
 runs c h [] = done
-runs c h (command f u handed ∷ es) = seen-as c _ _ es _ _ _ (command-seen c f u handed (replicate 258 0)) (commands f u handed (replicate 258 0) _ (replyOf (commanded c f u 258)) (omega arith) (refl, refl) (runs (next c (command f u handed)) (next-kept c h (command f u handed)) es))
+runs c h (command f u handed ∷ es) = seen-as c _ _ es _ _ _ (event-seen c (command f u handed) (replicate 258 0)) (commands f u handed (replicate 258 0) _ (replyOf (commanded c f u 258)) (omega arith) (refl, refl) (runs (next c (command f u handed)) (next-kept c h (command f u handed)) es))
+runs c h (opens f ∷ es) = seen-as c _ _ es _ _ _ (event-seen c (opens f) (replicate 258 0)) (openings f (replicate 258 0) _ (replyOf (chainOpened c f 258)) (omega arith) (refl, refl) (runs (next c (opens f)) (next-kept c h (opens f)) es))
+runs c h (delivers x ∷ es) = seen-as c _ _ es _ _ _ (event-seen c (delivers x) (replicate 258 0)) (frames x (replicate 258 0) _ (replyOf (bytesSent c x 258)) (omega arith) (refl, refl) (runs (next c (delivers x)) (next-kept c h (delivers x)) es))
 runs c h (session k known ∷ es) = seen-as c _ _ es _ _ _ (session-silent c h k known) (changes k known (replyOf (sessionChanged c k)) refl (runs (next c (session k known)) (next-kept c h (session k known)) es))
 runs c h (power ∷ es) = seen-as c _ _ es _ _ _ (power-silent c h) (powers (replyOf (poweredUp c)) refl (runs (next c power) (next-kept c h power) es))

@@ -15,6 +15,7 @@ use Rattle.field.specs.Bytes.{Bytes, Block, Sized, zeros}
 use Rattle.field.specs.Laws.{append-bytes, take-bytes, zeros-block}
 use Rattle.keys.specs.declared.Keys.{Keys}
 use Rattle.keys.specs.Keys.{keyAt}
+use Rattle.chains.specs.Chain.{unchained, isOpen}
 use Rattle.channel.specs.declared.Channel.{Channel}
 use Rattle.channel.specs.declared.Inputs.{Inputs}
 use Rattle.channel.specs.declared.Stage.the-variants.{Real}
@@ -27,7 +28,7 @@ use Rattle.frames.specs.Frame.{insOf, dataOf, lrpIn, wrongSize, wrongClass, wro
 use Rattle.columns.specs.Table.{authenticateFirst, authenticateSecond, onFile, namesFile}
 use Rattle.rows.specs.State.{Core, State}
 use Rattle.modes.specs.Modes.{plainOf}
-use Rattle.rows.specs.Rows.{unknownCommand, interrupts, lengthCases, wrongLength, lacksMac, unknownFile, otherKindOrNever, notGranted, partFails, forged, usedUp, switchedOff, parameterCases, badParameter, ranged, amountCases, outside, longRead, nothingPending, macedIn, rowsOf, ok, statusOf}
+use Rattle.rows.specs.Rows.{unknownCommand, interrupts, lengthCases, wrongLength, lacksMac, unknownFile, otherKindOrNever, notGranted, partFails, forged, usedUp, switchedOff, parameterCases, badParameter, ranged, amountCases, outside, longRead, nothingPending, macedIn, rowsFor, ok, statusFor, statusOf}
 use Rattle.rows.specs.Laws.{first-plain, second-plain}
 use Rattle.card.specs.declared.Card.{Card}
 use Rattle.card.specs.View.{view, put}
@@ -60,19 +61,19 @@ framed-sent i d f e h k =
     (record { size = framed-size i d h k; class = framed-class i d h k; parameters = framed-parameters i d h k; frame = framed-frame i d h k; ins = refl; field = framed-data i d })
 
 module _ (c : Core) (f d : List ℕ) where
-  first-clear : Sent f authenticateFirst d → isWaiting (c .channel .stage) ≡ false → wrongLength authenticateFirst d ≡ false → badParameter authenticateFirst d ≡ false
+  first-clear : Sent f authenticateFirst d → isWaiting (c .channel .stage) ≡ false → isOpen (c .channel .chain) ≡ false → wrongLength false authenticateFirst d ≡ false → badParameter authenticateFirst d ≡ false
       → statusOf c f ≡ ok
-  unfolding statusOf rowsOf unknownCommand interrupts lacksMac unknownFile otherKindOrNever notGranted partFails forged usedUp switchedOff outside ranged amountCases longRead nothingPending plainOf pick onFile namesFile
-  first-clear s w l p =
-      none-first (rowsOf c f (insOf f) (dataOf f)) ok
-      (s .size, (s .class, (s .parameters, (s .frame, rw (s .ins, s .field, first-plain c d) (refl, (and-left (isWaiting (c .channel .stage)) _ w, (or-none _ _ l refl, (refl, (refl, (refl, (refl, (refl, (p, (refl, (refl, tt)))))))))))))))
+  unfolding statusFor rowsFor unknownCommand interrupts lacksMac unknownFile otherKindOrNever notGranted partFails forged usedUp switchedOff outside ranged amountCases longRead nothingPending plainOf pick onFile namesFile
+  first-clear s w z l p =
+      none-first (rowsFor false c f (insOf f) (dataOf f)) ok
+      (s .size, (s .class, (s .parameters, (s .frame, rw (s .ins, s .field, first-plain c d) (refl, (or-none _ _ (and-left (isWaiting (c .channel .stage)) _ w) z, (or-none _ _ l refl, (refl, (refl, (refl, (refl, (refl, (refl, (p, (refl, (refl, tt))))))))))))))))
 
-  second-clear : Sent f authenticateSecond d → isWaiting (c .channel .stage) ≡ true → length d ≡ 32 → fails (keyAt (c .keys) (stageKey (c .channel .stage))) (c .channel .secret) d ≡ false
+  second-clear : Sent f authenticateSecond d → isWaiting (c .channel .stage) ≡ true → isOpen (c .channel .chain) ≡ false → length d ≡ 32 → fails (keyAt (c .keys) (stageKey (c .channel .stage))) (c .channel .secret) d ≡ false
       → statusOf c f ≡ ok
-  unfolding statusOf rowsOf unknownCommand interrupts lengthCases lacksMac unknownFile otherKindOrNever notGranted partFails forged usedUp switchedOff parameterCases outside ranged amountCases longRead nothingPending plainOf pick onFile namesFile
-  second-clear s w l p =
-      none-first (rowsOf c f (insOf f) (dataOf f)) ok
-      (s .size, (s .class, (s .parameters, (s .frame, rw (s .ins, s .field, second-plain c d) (ap not w, (and-right (isWaiting (c .channel .stage)) false refl, (or-none _ _ (ap not (eq-eqb (length d) 32 l)) refl, (refl, (refl, (and-right (eqb (length d) 32) _ p, (refl, (refl, (refl, (refl, (refl, tt)))))))))))))))
+  unfolding statusFor rowsFor unknownCommand interrupts lengthCases lacksMac unknownFile otherKindOrNever notGranted partFails forged usedUp switchedOff parameterCases outside ranged amountCases longRead nothingPending plainOf pick onFile namesFile
+  second-clear s w z l p =
+      none-first (rowsFor false c f (insOf f) (dataOf f)) ok
+      (s .size, (s .class, (s .parameters, (s .frame, rw (s .ins, s .field, second-plain c d) (ap not w, (or-none _ _ (and-right (isWaiting (c .channel .stage)) false refl) z, (or-none _ _ (ap not (eq-eqb (length d) 32 l)) refl, (refl, (refl, (and-right (eqb (length d) 32) _ p, (refl, (refl, (refl, (refl, (refl, (refl, tt))))))))))))))))
 
 -- what it leaves, where it carries no MAC
 part-plays : (s : State) (u : Inputs) (f : List ℕ) (i : ℕ) (d : List ℕ) → Sent f i d → macedIn (s .core) i d ≡ false
@@ -86,7 +87,7 @@ part-sends c h u f i d s m e = sym (command-plays c f u 258 (omega arith) (h .ru
 
 -- ---- the exchange
 
-module _ (c : Card) (h : Kept c) (w : isWaiting (c .channel .stage) ≡ false) (k : ℕ) (small : k ≤ 4) (hk : Block (keyAt (c .keys) k)) (a : List ℕ) (ha : Block a)
+module _ (c : Card) (h : Kept c) (w : isWaiting (c .channel .stage) ≡ false) (z : isOpen (c .channel .chain) ≡ false) (k : ℕ) (small : k ≤ 4) (hk : Block (keyAt (c .keys) k)) (a : List ℕ) (ha : Block a)
     (caps : List ℕ) (hc : Bytes caps) (few : length caps ≤ 253) (standard : lrpIn (k ∷ length caps ∷ caps) ≡ 1 → ⊥)
     (u u′ : Inputs) (hr : Block (u .random)) (ht : Sized 4 (u .ti)) where
   abbrev key : List ℕ
@@ -98,10 +99,10 @@ module _ (c : Card) (h : Kept c) (w : isWaiting (c .channel .stage) ≡ false) (
   sent₁ : Sent (firstFrame k caps) authenticateFirst d₁
   sent₁ = framed-sent authenticateFirst d₁ (firstFrame k caps) (unfold firstFrame in ap (λ (n : ℕ). 0x90 ∷ 0x71 ∷ 0x00 ∷ 0x00 ∷ n ∷ k ∷ length caps ∷ caps ++ 0x00 ∷ []) (omega arith)) (omega arith) (omega arith)
 
-  long₁ : wrongLength authenticateFirst d₁ ≡ false
+  long₁ : wrongLength false authenticateFirst d₁ ≡ false
   unfolding lengthCases
   long₁ =
-      no-any (lengthCases authenticateFirst d₁)
+      no-any (lengthCases false authenticateFirst d₁)
       (refl, (refl, (refl, (refl, (refl, (refl, (refl, (refl, (refl, (refl, (refl, (refl, (or-none _ _ (le-ltb (length d₁) 2 (omega arith)) (ap not (eq-eqb (length d₁) (length caps + 2) (omega arith))), (refl, tt))))))))))))))
 
   bad₁ : badParameter authenticateFirst d₁ ≡ false
@@ -109,7 +110,7 @@ module _ (c : Card) (h : Kept c) (w : isWaiting (c .channel .stage) ≡ false) (
   bad₁ = no-any (parameterCases authenticateFirst d₁) (refl, (refl, (refl, (or-none _ _ (le-ltb 4 k small) (ne-eqb _ 1 standard), tt))))
 
   ok₁ : statusOf (view c .core) (firstFrame k caps) ≡ ok
-  ok₁ = first-clear (view c .core) (firstFrame k caps) d₁ sent₁ (unfold view in w) long₁ bad₁
+  ok₁ = first-clear (view c .core) (firstFrame k caps) d₁ sent₁ (unfold view in w) (unfold view in z) long₁ bad₁
 
   o₁ : sends c (firstFrame k caps) u ≡ laidInto c (record { state = changed (view c) u authenticateFirst d₁; out = shown (view c) u authenticateFirst d₁ ++ word (acceptedStatus authenticateFirst) })
   o₁ = part-sends c h u (firstFrame k caps) authenticateFirst d₁ sent₁ (first-plain (view c .core) d₁) ok₁
@@ -170,15 +171,19 @@ module _ (c : Card) (h : Kept c) (w : isWaiting (c .channel .stage) ≡ false) (
     second-reply : secondShown ks g d ≡ r
     second-reply = rw (ek, eg) (unfold secondShown begun in ap (secondReply key (u .ti) (capsOf d₁)) brought)
 
-    second-channel : opened ks g d ≡ record { stage = Real k 0; secret = macKey key a (u .random); ti = u .ti; caps = replicate 6 0 }
-    second-channel = rw (ek, eg) (unfold opened begun in ap (λ (x : List ℕ). record { stage = Real k 0; secret = macKey key x (u .random); ti = u .ti; caps = replicate 6 0 }) brought)
+    second-channel : opened ks g d ≡ record { stage = Real k 0; secret = macKey key a (u .random); ti = u .ti; caps = replicate 6 0; chain = unchained }
+    second-channel = rw (ek, eg) (unfold opened begun in ap (λ (x : List ℕ). record { stage = Real k 0; secret = macKey key x (u .random); ti = u .ti; caps = replicate 6 0; chain = unchained }) brought)
+
+  unchained₁ : isOpen (c₁ .channel .chain) ≡ false
+  unfolding begun unchained
+  unchained₁ = ap (λ (g : Channel). isOpen (g .chain)) channel₁
 
   waits : isWaiting (c₁ .channel .stage) ≡ true
   unfolding begun
   waits = ap (λ (g : Channel). isWaiting (g .stage)) channel₁
 
   ok₂ : statusOf (view c₁ .core) (secondFrame d₂) ≡ ok
-  ok₂ = second-clear (view c₁ .core) (secondFrame d₂) d₂ sent₂ (unfold view in waits) long₂ (unfold view in not-failed (c₁ .keys) (c₁ .channel) d₂ keys₁ channel₁ second-sent)
+  ok₂ = second-clear (view c₁ .core) (secondFrame d₂) d₂ sent₂ (unfold view in waits) (unfold view in unchained₁) long₂ (unfold view in not-failed (c₁ .keys) (c₁ .channel) d₂ keys₁ channel₁ second-sent)
 
   o₂ : sends c₁ (secondFrame d₂) u′ ≡ laidInto c₁ (record { state = changed (view c₁) u′ authenticateSecond d₂; out = shown (view c₁) u′ authenticateSecond d₂ ++ word (acceptedStatus authenticateSecond) })
   o₂ = part-sends c₁ kept₁ u′ (secondFrame d₂) authenticateSecond d₂ sent₂ (second-plain (view c₁ .core) d₂) ok₂
@@ -187,7 +192,7 @@ module _ (c : Card) (h : Kept c) (w : isWaiting (c .channel .stage) ≡ false) (
   unfolding laidInto shown acceptedStatus pick view
   second-accepted = ap (λ (o : Outcome). o .out) o₂ ∙ ap (λ (x : List ℕ). x ++ word 0x9100) (second-reply (c₁ .keys) (c₁ .channel) d₂ keys₁ channel₁ second-sent)
 
-  channel₂ : sends c₁ (secondFrame d₂) u′ .card .channel ≡ record { stage = Real k 0; secret = macKey key a (u .random); ti = u .ti; caps = replicate 6 0 }
+  channel₂ : sends c₁ (secondFrame d₂) u′ .card .channel ≡ record { stage = Real k 0; secret = macKey key a (u .random); ti = u .ti; caps = replicate 6 0; chain = unchained }
   unfolding laidInto put changed channelAfter pick view
   channel₂ = ap (λ (o : Outcome). o .card .channel) o₂ ∙ second-channel (c₁ .keys) (c₁ .channel) d₂ keys₁ channel₁ second-sent
 

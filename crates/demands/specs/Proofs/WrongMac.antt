@@ -14,13 +14,13 @@ use Rattle.channel.specs.Channel.{counterOf}
 use Rattle.sealing.specs.Sealing.{sealOf}
 use Rattle.frames.specs.Frame.{insOf, dataOf}
 use Rattle.modes.specs.Modes.{plainOf, macOf}
-use Rattle.rows.specs.Rows.{forged, usedUp, macedIn, rowsOf, ok, statusOf}
+use Rattle.rows.specs.Rows.{forged, usedUp, macedIn, rowsFor, ok, statusFor, statusOf}
 use Rattle.card.specs.declared.Card.{Card}
 use Rattle.card.specs.View.{view, put}
 use Rattle.card.specs.Outcome.{Outcome}
 use Rattle.card.specs.Events.{ended, refused, laidInto}
 use Rattle.card.specs.Laws.{command-plays, plays-refused}
-use Rattle.demands.specs.Demands.{Kept, Untouched, rowsFor}
+use Rattle.demands.specs.Demands.{Kept, Untouched, rowsOn}
 use Rattle.demands.specs.Sessions.{sends, WrongMac, WrongMacs}
 use Rattle.demands.specs.Laws.FirstRow.{first-found}
 use Rattle.demands.specs.Proofs.Demand1.{ended-untouched}
@@ -43,15 +43,15 @@ module _ (c : Card) (h : Kept c) (g : List ℕ) (m : macedIn (view c .core) (ins
   seen = or-left (forged (view c .core .channel) (macedIn (view c .core) (insOf g) (dataOf g)) (insOf g) (dataOf g)) _ (unfold view in mac-forged)
 
   abbrev above : List Reason
-  above = take 11 (rowsFor c g)
+  above = take 12 (rowsOn false c g)
 
   refused-there : first above ok ≡ ok → ⊥
-  unfolding rowsOf
-  refused-there e = let r = no-reason above ok refl e in true≢false (sym seen ∙ r .1 .1 .1 .1 .1 .1 .1 .1 .1 .1 .0)
+  unfolding rowsFor
+  refused-there e = let r = no-reason above ok refl e in true≢false (sym seen ∙ r .1 .1 .1 .1 .1 .1 .1 .1 .1 .1 .1 .0)
 
   status-there : first above ok ≡ statusOf (view c .core) g
-  unfolding statusOf rowsOf
-  status-there = first-refuses above (drop 11 (rowsFor c g)) ok refused-there
+  unfolding statusFor rowsFor
+  status-there = first-refuses above (drop 12 (rowsOn false c g)) ok refused-there
 
   module _ (u : Inputs) where
     refuses : sends c g u ≡ laidInto c (refused (view c) (first above ok))

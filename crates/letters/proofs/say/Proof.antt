@@ -1,6 +1,8 @@
 use Rattle.notices.specs.Notices.{noticeText}
 use Rattle.letters.specs.Letters.{saidOf, unread, otherSaid, lettered}
 use Rattle.wire.specs.Bytes.{part}
+use Rattle.wire.specs.Laws.{length-part}
+use native.Mathlib.Omega.{arith}
 use Rattle.tables.specs.Choice.{picked, passed}
 use borrow.Author.Tests.{lt-ltb, le-ltb, eq-eqb, ne-eqb}
 use lib.ListN.{length}
@@ -34,7 +36,7 @@ part-say-lettered-end : tie.Need-part-say-lettered-end
 part-say-lettered-end c = search needs
 
 say-lettered-requires : tie.Need-say-lettered-requires
-say-lettered-requires c κs = search needs
+say-lettered-requires c κs = let l = now (c .before .before .before .before .before .before .args .line) in omega (arith, length-part l 1 (length l) (omega arith), c .before .before .before .before .if1 .left)
 
 returns-3 : tie.Need-returns-3
 unfolding otherSaid

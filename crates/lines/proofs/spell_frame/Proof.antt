@@ -20,7 +20,7 @@ use Rattle.lines.proofs.spell_frame.Tie as tie
 
 module _ (k : tie.After-spell) where
   abbrev start : tie.Start
-  start = k .before .before .before .before .before
+  start = k .before .before .before .before .before .before .before
 
   abbrev text : List ℕ
   text = now (start .args .text)
@@ -51,6 +51,12 @@ module _ (k : tie.After-spell) where
 returns : tie.Need-returns
 returns c = let a = c .before .before .args in let e = frame-past (now (a .text)) (a .at) (c .if1 .taken) in (ap length e, e)
 
+is-chained-requires : tie.Need-is-chained-requires
+is-chained-requires c κs = tt
+
+returns-2 : tie.Need-returns-2
+returns-2 c = let e = c .before .is-chained .ensures (c .if2 .taken) in (ap length e, e)
+
 sub-spell : tie.Need-sub-spell
 sub-spell c = search needs
 
@@ -72,19 +78,19 @@ add-byte-at c = let l = length-drop (start c .args .at) (text c) in record { fit
 byte-at-requires : tie.Need-byte-at-requires
 byte-at-requires c κs = search needs
 
-returns-2 : tie.Need-returns-2
-returns-2 c =
-    let k = c .before .before in
-    let r = k .spell .result in
-    let a = and-yes (ltb 0 r) (eqb (c .before .byte-at .result) 0x0A) (c .if2 .taken) in
-    let g = sym (next k (2 * r)) ∙ (sym (c .before .byte-at .ensures) ∙ eqb-true _ _ (a .1)) in
-    frame-there (from k) (now (start k .args .bytes)) _ _ (room k) (shown k) (ltb-true _ _ (a .0)) g
-
 returns-3 : tie.Need-returns-3
 returns-3 c =
     let k = c .before .before in
     let r = k .spell .result in
-    let n = ap (λ (b : ℕ). ltb 0 r && eqb b 0x0A) (sym (c .before .byte-at .ensures ∙ next k (2 * r))) ∙ c .if2 .left in
+    let a = and-yes (ltb 0 r) (eqb (c .before .byte-at .result) 0x0A) (c .if3 .taken) in
+    let g = sym (next k (2 * r)) ∙ (sym (c .before .byte-at .ensures) ∙ eqb-true _ _ (a .1)) in
+    frame-there (from k) (now (start k .args .bytes)) _ _ (room k) (shown k) (ltb-true _ _ (a .0)) g
+
+returns-4 : tie.Need-returns-4
+returns-4 c =
+    let k = c .before .before in
+    let r = k .spell .result in
+    let n = ap (λ (b : ℕ). ltb 0 r && eqb b 0x0A) (sym (c .before .byte-at .ensures ∙ next k (2 * r))) ∙ c .if3 .left in
     let e = frame-none (from k) (now (start k .args .bytes)) _ _ (room k) (shown k) n in
     (ap length e, e)
 
@@ -93,6 +99,8 @@ spell-frame-spec =
     tie.close
     (tie.spec
     returns
+    is-chained-requires
+    returns-2
     sub-spell
     part-spell-start
     part-spell-end
@@ -100,5 +108,5 @@ spell-frame-spec =
     mul-byte-at
     add-byte-at
     byte-at-requires
-    returns-2
-    returns-3)
+    returns-3
+    returns-4)

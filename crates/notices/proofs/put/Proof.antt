@@ -17,7 +17,7 @@ part-put-start : tie.Need-part-put-start
 part-put-start c = search needs
 
 part-put-end : tie.Need-part-put-end
-part-put-end c = let p = c .before .before .put-text in omega (arith, text-fits _ _ _ _ (p .ensures) (p .kept .1 .1 .1 .1 .0), p .kept .1 .1 .1 .1 .0)
+part-put-end c = let p = c .before .before .put-text in omega (arith, text-fits _ _ _ _ (p .ensures) (p .kept .1 .1 .1 .1 .1 .0), p .kept .1 .1 .1 .1 .1 .0)
 
 put-requires : tie.Need-put-requires
 put-requires c κs = tt

@@ -1,7 +1,8 @@
 use Rattle.script.specs.Lines.{commandedOn, lineSaid}
-use Rattle.script.proofs.Steps.{Plays, front-holds, lent-most, plays-lent, reply-bytes, own-card, written, line, played-full, played-next, ends, told-full, told-next}
+use Rattle.script.proofs.Steps.{front-holds, own-card, written, line, played-full, played-next, ends, told-full, told-next}
 use Rattle.lines.specs.Sofar.{Sofar, sofar-start, sofar-length, sofar-end, sofar-part, sofar-as}
 use Rattle.letters.specs.Letters.{withCard}
+use Rattle.letters.specs.Laws.{Plays, lent-most, plays-lent, reply-bytes}
 use Rattle.card.specs.Events.{commanded}
 use Rattle.desk.specs.declared.Desk.{Desk}
 use Rattle.wire.specs.Bytes.{part}

@@ -17,13 +17,17 @@ log-breaks-requires c κs = tt
 value-breaks-requires : tie.Need-value-breaks-requires
 value-breaks-requires c κs = tt
 
+chain-breaks-requires : tie.Need-chain-breaks-requires
+chain-breaks-requires c κs = tt
+
 returns : tie.Need-returns
 returns c =
-    let l = c .before .before in
+    let v = c .before in
+    let l = v .before .before in
     let s = l .before in
     let x = s .before in
     let a = x .before .before .before .args in
-    rw (x .before .has-wrong-rights .ensures, x .are-crossed .ensures, s .is-sound .ensures, l .log-breaks .ensures, c .value-breaks .ensures) (by-parts (a .settings) (a .purse) (a .log) (a .stage))
+    rw (x .before .has-wrong-rights .ensures, x .are-crossed .ensures, s .is-sound .ensures, l .log-breaks .ensures, v .value-breaks .ensures, c .chain-breaks .ensures) (by-parts (a .settings) (a .purse) (a .log) (a .stage) (a .chain))
 
 pub breaks-spec : {M : Type 1} → statement M
 breaks-spec =
@@ -34,4 +38,5 @@ breaks-spec =
     is-sound-requires
     log-breaks-requires
     value-breaks-requires
+    chain-breaks-requires
     returns)

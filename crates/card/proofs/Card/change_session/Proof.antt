@@ -16,7 +16,7 @@ breaks-requires : tie.Need-breaks-requires
 breaks-requires c κs = tt
 
 returns-2 : tie.Need-returns-2
-returns-2 c = let a = c .before .before .before .before .before .before .before .before .args in session-broken (a .self) (a .session) (sym (ap not (c .before .before .before .before .before .before .before .is-sound .ensures)) ∙ c .before .before .before .before .before .before .if1 .left) (sym (c .before .breaks .ensures) ∙ c .if2 .taken)
+returns-2 c = let a = c .before .before .before .before .before .before .before .before .before .args in session-broken (a .self) (a .session) (sym (ap not (c .before .before .before .before .before .before .before .before .is-sound .ensures)) ∙ c .before .before .before .before .before .before .before .if1 .left) (sym (c .before .breaks .ensures) ∙ c .if2 .taken)
 
 of-session-requires : tie.Need-of-session-requires
 of-session-requires c κs = tt
@@ -28,7 +28,7 @@ on-channel-requires : tie.Need-on-channel-requires
 on-channel-requires c κs = tt
 
 returns-3 : tie.Need-returns-3
-returns-3 c = let a = c .before .before .before .before .before .before .before .before .before .before .before .args in session-changes (a .self) (a .session) (sym (ap not (c .before .before .before .before .before .before .before .before .before .before .is-sound .ensures)) ∙ c .before .before .before .before .before .before .before .before .before .if1 .left) (sym (c .before .before .before .before .breaks .ensures) ∙ c .before .before .before .if2 .left) (c .on-channel .ensures ∙ ap (onChannel (a .self)) (c .before .bare .ensures ∙ ap bare (c .before .before .of-session .ensures)))
+returns-3 c = let a = c .before .before .before .before .before .before .before .before .before .before .before .before .args in session-changes (a .self) (a .session) (sym (ap not (c .before .before .before .before .before .before .before .before .before .before .before .is-sound .ensures)) ∙ c .before .before .before .before .before .before .before .before .before .before .if1 .left) (sym (c .before .before .before .before .breaks .ensures) ∙ c .before .before .before .if2 .left) (c .on-channel .ensures ∙ ap (onChannel (a .self)) (c .before .bare .ensures ∙ ap bare (c .before .before .of-session .ensures)))
 
 pub change-session-spec : {M : Type 1} → statement M
 change-session-spec =

@@ -1,7 +1,7 @@
 use Rattle.card.specs.declared.Card.{Card}
 use Rattle.card.specs.Events.{replyRoom}
 use Rattle.card.specs.Accepted.{Granted}
-use Rattle.card.specs.Laws.{bench-answers, answered-as, command-short, command-broken, command-refused, command-granted, command-accepts, command-part, command-quiet, begins-plain, opens-plain, opens-long, moved, wrote}
+use Rattle.card.specs.Laws.{bench-answers, answered-as, no-bench, command-bench, command-refused, command-granted, command-accepts, command-part, command-quiet, begins-plain, opens-plain, opens-long, moved, wrote}
 use Rattle.card.specs.Sealing.{Sealed, sealed-plain}
 use Rattle.checks.specs.Order.{status-told, maced-told}
 use Rattle.card.specs.View.{view, broken}
@@ -36,50 +36,48 @@ module _ (p : tie.After-plain) where
   abbrev buffer : List ℕ
   buffer = now (p .before .before .before .before .before .before .before .before .before .before .before .before .before .before .before .args .reply)
 
+  unrefused : (replyRoom ≤ length buffer) × (broken card ≡ false)
+  unrefused = no-bench card (length buffer) (p .before .before .before .before .before .before .bench-refusal .ensures) (p .before .before .before .before .before .if1 .left)
+
   room : replyRoom ≤ length buffer
-  room = p .before .before .before .before .before .before .before .if1 .left
+  room = unrefused .0
 
   sound : broken card ≡ false
-  sound = sym (p .before .before .before .before .before .before .breaks .ensures) ∙ p .before .before .before .before .before .if2 .left
+  sound = unrefused .1
 
   taken : statusOf (view card .core) frame ≡ ok
   unfolding view
-  taken = sym (status-told _ _ (p .before .before .before .before .check .ensures)) ∙ p .before .before .before .if3 .left
+  taken = sym (status-told _ _ _ (p .before .before .before .before .check .ensures)) ∙ p .before .before .before .if2 .left
 
   maced : p .before .before .before .before .check .result .maced ≡ macedIn (view card .core) (insOf frame) (dataOf frame)
   unfolding view
-  maced = maced-told _ _ (p .before .before .before .before .check .ensures) taken
+  maced = maced-told _ _ _ (p .before .before .before .before .check .ensures) taken
 
   granted : Granted (view card .core) (p .before .before .before .before .check .result .maced) (p .before .before .byte-at .result) (now (p .plain .result))
   granted = command-granted card frame inputs buffer room sound taken maced (p .before .before .byte-at .ensures) (p .before .«data» .ensures) (p .plain .ensures)
 
 -- what is laid behind no data
-module _ (j : tie.Joined7) where
+module _ (j : tie.Joined6) where
   abbrev plainly : tie.After-plain
   plainly = j .before .before .before .before .before .before
 
-  sealed : Sealed (j .before .counted .result) (plainly .before .before .before .before .check .result .maced) 0 (buffer plainly) (j .if7 .reply) (j .if7 .len)
+  sealed : Sealed (j .before .counted .result) (plainly .before .before .before .before .check .result .maced) 0 (buffer plainly) (j .if6 .reply) (j .if6 .len)
   sealed =
       ⊎-elim
       (λ w. (w .5 ∙ w .2 .ensures .0, w .6 ∙ w .2 .ensures .1))
       (λ w. sealed-plain _ 0 (buffer plainly) (room plainly) (w .0 .left) (omega arith) (w .5 ∙ w .2 .ensures .0) (w .6 ∙ w .2 .ensures .1))
-      (j .if7 .came)
+      (j .if6 .came)
 
-  as-long : length (j .if7 .reply) ≡ length (buffer plainly)
-  as-long = ⊎-elim (λ w. ap length (w .5) ∙ w .2 .kept .1 .1 .1 .0) (λ w. ap length (w .5) ∙ w .2 .kept .1 .1 .0) (j .if7 .came)
+  as-long : length (j .if6 .reply) ≡ length (buffer plainly)
+  as-long = ⊎-elim (λ w. ap length (w .5) ∙ w .2 .kept .1 .1 .1 .0) (λ w. ap length (w .5) ∙ w .2 .kept .1 .1 .0) (j .if6 .came)
+
+bench-refusal-requires : tie.Need-bench-refusal-requires
+bench-refusal-requires c κs = tt
 
 returns : tie.Need-returns
 returns c =
-    let a = c .before .before .before .before .before .before .before .before .args in
-    answered-as _ _ _ _ _ (command-short (a .self) (now (a .frame)) (a .inputs) _ (c .if1 .taken)) (bench-answers (a .self) 5 (now (a .reply)))
-
-breaks-requires : tie.Need-breaks-requires
-breaks-requires c κs = tt
-
-returns-2 : tie.Need-returns-2
-returns-2 c =
     let a = c .before .before .before .before .before .before .before .before .before .before .args in
-    answered-as _ _ _ _ _ (command-broken (a .self) (now (a .frame)) (a .inputs) _ (c .before .before .if1 .left) (sym (c .before .breaks .ensures) ∙ c .if2 .taken)) (bench-answers (a .self) 6 (now (a .reply)))
+    answered-as _ _ _ _ _ (command-bench (a .self) (now (a .frame)) (a .inputs) _ (c .before .bench-refusal .ensures) (c .if1 .taken)) (bench-answers (a .self) _ (now (a .reply)))
 
 check-requires : tie.Need-check-requires
 check-requires c κs = tt
@@ -93,14 +91,14 @@ ended-requires c κs = tt
 same-length : tie.Need-same-length
 same-length c = search needs
 
-returns-3 : tie.Need-returns-3
+returns-2 : tie.Need-returns-2
 unfolding view
-returns-3 c =
+returns-2 c =
     let k = c .before .before .before .before .before in
     let a = k .before .before .before .before .before .before .before .before .before .before .before .before .args in
-    let u = sym (k .before .before .before .breaks .ensures) ∙ k .before .before .if2 .left in
+    let u = no-bench (a .self) (length (now (a .reply))) (k .before .before .before .bench-refusal .ensures) (k .before .before .if1 .left) in
     let w = c .before .before .before .close .ensures in
-    command-refused (a .self) (now (a .frame)) (a .inputs) (now (a .reply)) (k .before .before .before .before .if1 .left) u _ (status-told _ _ (k .before .check .ensures)) (k .if3 .taken) (c .ended .ensures) (w .0) (w .1)
+    command-refused (a .self) (now (a .frame)) (a .inputs) (now (a .reply)) (u .0) (u .1) _ (status-told _ _ _ (k .before .check .ensures)) (k .if2 .taken) (c .ended .ensures) (w .0) (w .1)
 
 byte-at-requires : tie.Need-byte-at-requires
 byte-at-requires c κs = tt
@@ -117,26 +115,26 @@ begun-requires c κs = room (c .before .before)
 same-length-2 : tie.Need-same-length-2
 same-length-2 c = search needs
 
-returns-4 : tie.Need-returns-4
-returns-4 c =
+returns-3 : tie.Need-returns-3
+returns-3 c =
     let p = c .before .before .before .before .before in
-    command-part (card p) (frame p) (inputs p) (buffer p) (room p) (sound p) (taken p) (maced p) (p .before .before .byte-at .ensures) (p .before .«data» .ensures) (p .plain .ensures) (c .before .before .before .before .if4 .taken)
-    (begins-plain (card p) (frame p) (inputs p) (buffer p) (room p) (sound p) (taken p) (maced p) (p .before .before .byte-at .ensures) (p .before .«data» .ensures) (p .plain .ensures) (c .before .before .before .before .if4 .taken))
+    command-part (card p) (frame p) (inputs p) (buffer p) (room p) (sound p) (taken p) (maced p) (p .before .before .byte-at .ensures) (p .before .«data» .ensures) (p .plain .ensures) (c .before .before .before .before .if3 .taken)
+    (begins-plain (card p) (frame p) (inputs p) (buffer p) (room p) (sound p) (taken p) (maced p) (p .before .before .byte-at .ensures) (p .before .«data» .ensures) (p .plain .ensures) (c .before .before .before .before .if3 .taken))
     (c .before .before .begun .ensures)
 
 opened-requires : tie.Need-opened-requires
 opened-requires c κs =
     let p = c .before .before .before in
-    (room p, opens-long (card p) (frame p) (inputs p) (buffer p) (room p) (sound p) (taken p) (maced p) (p .before .before .byte-at .ensures) (p .before .«data» .ensures) (p .plain .ensures) (c .before .if5 .taken))
+    (room p, opens-long (card p) (frame p) (inputs p) (buffer p) (room p) (sound p) (taken p) (maced p) (p .before .before .byte-at .ensures) (p .before .«data» .ensures) (p .plain .ensures) (c .before .if4 .taken))
 
 same-length-3 : tie.Need-same-length-3
 same-length-3 c = search needs
 
-returns-5 : tie.Need-returns-5
-returns-5 c =
+returns-4 : tie.Need-returns-4
+returns-4 c =
     let p = c .before .before .before .before .before .before in
-    command-part (card p) (frame p) (inputs p) (buffer p) (room p) (sound p) (taken p) (maced p) (p .before .before .byte-at .ensures) (p .before .«data» .ensures) (p .plain .ensures) (c .before .before .before .before .if5 .taken)
-    (opens-plain (card p) (frame p) (inputs p) (buffer p) (room p) (sound p) (taken p) (maced p) (p .before .before .byte-at .ensures) (p .before .«data» .ensures) (p .plain .ensures) (c .before .before .before .before .if5 .taken))
+    command-part (card p) (frame p) (inputs p) (buffer p) (room p) (sound p) (taken p) (maced p) (p .before .before .byte-at .ensures) (p .before .«data» .ensures) (p .plain .ensures) (c .before .before .before .before .if4 .taken)
+    (opens-plain (card p) (frame p) (inputs p) (buffer p) (room p) (sound p) (taken p) (maced p) (p .before .before .byte-at .ensures) (p .before .«data» .ensures) (p .plain .ensures) (c .before .before .before .before .if4 .taken))
     (c .before .before .opened .ensures)
 
 shows-requires : tie.Need-shows-requires
@@ -145,13 +143,13 @@ shows-requires c κs = tt
 shown-requires : tie.Need-shown-requires
 shown-requires c κs =
     let p = c .before .before .before .before .before in
-    (sym (c .before .before .shows .ensures) ∙ c .before .if6 .taken, granted p, sound p, room p)
+    (sym (c .before .before .shows .ensures) ∙ c .before .if5 .taken, granted p, sound p, room p)
 
 same-length-4 : tie.Need-same-length-4
 same-length-4 c = search needs
 
-returns-6 : tie.Need-returns-6
-returns-6 c =
+returns-5 : tie.Need-returns-5
+returns-5 c =
     let p = c .before .before .before .before .before .before .before .before in
     command-accepts (card p) (frame p) (inputs p) (buffer p) (room p) (sound p) (taken p) (maced p) (p .before .before .byte-at .ensures) (p .before .«data» .ensures) (p .plain .ensures) (c .before .before .shown .ensures)
 
@@ -170,12 +168,12 @@ next-files-requires c κs = tt
 same-length-5 : tie.Need-same-length-5
 same-length-5 c = as-long (c .before .before .before)
 
-returns-7 : tie.Need-returns-7
-returns-7 c =
+returns-6 : tie.Need-returns-6
+returns-6 c =
     let q = c .before .before .before .before .before in
     let p = c .before .before .before .before .before .before .before .before .before in
-    let w = wrote (card p) (inputs p) _ (now (p .plain .result)) _ (c .before .if8 .taken) (c .next-files .ensures) (c .before .before .before .before .counted .ensures) in
-    command-quiet (card p) (frame p) (inputs p) (buffer p) (room p) (sound p) (taken p) (maced p) (p .before .before .byte-at .ensures) (p .before .«data» .ensures) (p .plain .ensures) (ne-eqb _ _ (q .before .before .before .if4 .left)) (ne-eqb _ _ (q .before .before .if5 .left)) (sym (q .before .shows .ensures) ∙ q .if6 .left) w (c .before .before .before .before .counted .ensures) (sealed (c .before .before .before))
+    let w = wrote (card p) (inputs p) _ (now (p .plain .result)) _ (c .before .if7 .taken) (c .next-files .ensures) (c .before .before .before .before .counted .ensures) in
+    command-quiet (card p) (frame p) (inputs p) (buffer p) (room p) (sound p) (taken p) (maced p) (p .before .before .byte-at .ensures) (p .before .«data» .ensures) (p .plain .ensures) (ne-eqb _ _ (q .before .before .before .if3 .left)) (ne-eqb _ _ (q .before .before .if4 .left)) (sym (q .before .shows .ensures) ∙ q .if5 .left) w (c .before .before .before .before .counted .ensures) (sealed (c .before .before .before))
 
 next-purse-requires : tie.Need-next-purse-requires
 next-purse-requires c κs = tt
@@ -186,47 +184,46 @@ next-log-requires c κs = tt
 same-length-6 : tie.Need-same-length-6
 same-length-6 c = as-long (c .before .before .before .before)
 
-returns-8 : tie.Need-returns-8
-returns-8 c =
+returns-7 : tie.Need-returns-7
+returns-7 c =
     let q = c .before .before .before .before .before .before in
     let p = c .before .before .before .before .before .before .before .before .before .before in
-    let n₁ = ne-eqb _ _ (q .before .before .before .if4 .left) in
-    let n₂ = ne-eqb _ _ (q .before .before .if5 .left) in
-    let w = moved (card p) (inputs p) _ _ _ _ (granted p .0) n₁ n₂ (ne-eqb _ _ (c .before .before .if8 .left)) (c .before .next-purse .ensures) (c .next-log .ensures) (c .before .before .before .before .before .counted .ensures) in
-    command-quiet (card p) (frame p) (inputs p) (buffer p) (room p) (sound p) (taken p) (maced p) (p .before .before .byte-at .ensures) (p .before .«data» .ensures) (p .plain .ensures) n₁ n₂ (sym (q .before .shows .ensures) ∙ q .if6 .left) w (c .before .before .before .before .before .counted .ensures) (sealed (c .before .before .before .before))
+    let n₁ = ne-eqb _ _ (q .before .before .before .if3 .left) in
+    let n₂ = ne-eqb _ _ (q .before .before .if4 .left) in
+    let w = moved (card p) (inputs p) _ _ _ _ (granted p .0) n₁ n₂ (ne-eqb _ _ (c .before .before .if7 .left)) (c .before .next-purse .ensures) (c .next-log .ensures) (c .before .before .before .before .before .counted .ensures) in
+    command-quiet (card p) (frame p) (inputs p) (buffer p) (room p) (sound p) (taken p) (maced p) (p .before .before .byte-at .ensures) (p .before .«data» .ensures) (p .plain .ensures) n₁ n₂ (sym (q .before .shows .ensures) ∙ q .if5 .left) w (c .before .before .before .before .before .counted .ensures) (sealed (c .before .before .before .before))
 
 pub command-spec : {M : Type 1} → statement M
 command-spec =
     tie.close
     (tie.spec
+    bench-refusal-requires
     returns
-    breaks-requires
-    returns-2
     check-requires
     close-requires
     ended-requires
     same-length
-    returns-3
+    returns-2
     byte-at-requires
     data-requires
     plain-requires
     begun-requires
     same-length-2
-    returns-4
+    returns-3
     opened-requires
     same-length-3
-    returns-5
+    returns-4
     shows-requires
     shown-requires
     same-length-4
-    returns-6
+    returns-5
     counted-requires
     seal-requires
     close-requires-2
     next-files-requires
     same-length-5
-    returns-7
+    returns-6
     next-purse-requires
     next-log-requires
     same-length-6
-    returns-8)
+    returns-7)

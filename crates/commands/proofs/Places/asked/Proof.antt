@@ -15,6 +15,9 @@ access-to-requires c κs = tt
 is-maced-requires : tie.Need-is-maced-requires
 is-maced-requires c κs = tt
 
+carries-requires : tie.Need-carries-requires
+carries-requires c κs = tt
+
 plain-requires : tie.Need-plain-requires
 plain-requires c κs = tt
 
@@ -65,9 +68,8 @@ nothing-pending-requires c κs = tt
 
 returns : tie.Need-returns
 returns c =
-    let s = c .before .before .before .before .before .before .before .before .before .before .before .before .before .before .before .before .before .before .before .before .before .before in
-    let a = s .args in
-    asked-by (a .settings) (a .keys) (a .purse) (a .log) (a .channel) (a .ins) (now (a .x)) (c .before .before .before .before .before .before .before .before .before .before .before .before .before .before .before .before .before .before .before .before .byte-at .ensures) (c .before .before .before .before .before .before .before .before .before .before .before .before .before .before .before .before .before .before .before .acting .ensures) (c .before .before .before .before .before .before .before .before .before .before .before .before .before .before .before .before .before .before .access-to .ensures) (c .before .before .before .before .before .before .before .before .before .before .before .before .before .before .before .before .before .is-maced .ensures) (c .before .before .before .before .before .before .before .before .before .before .before .before .before .before .before .before .plain .ensures) (c .before .before .before .before .before .before .before .before .before .before .before .before .before .before .before .unknown-command .ensures) (c .before .before .before .before .before .before .before .before .before .before .before .before .before .before .interrupts .ensures) (c .before .before .before .before .before .before .before .before .before .before .before .before .before .wrong-length .ensures) (c .before .before .before .before .before .before .before .before .before .before .before .before .lacks-mac .ensures) (c .before .before .before .before .before .before .before .before .before .before .before .unknown-file .ensures) (c .before .before .before .before .before .before .before .before .before .before .other-kind-or-never .ensures) (c .before .before .before .before .before .before .before .before .before .not-granted .ensures) (c .before .before .before .before .before .before .before .before .part-fails .ensures) (c .before .before .before .before .before .before .before .is-forged .ensures) (c .before .before .before .before .before .before .used-up .ensures) (c .before .before .before .before .before .switched-off .ensures) (c .before .before .before .before .bad-parameter .ensures) (c .before .before .before .is-outside .ensures) (c .before .before .is-long-read .ensures) (c .nothing-pending .ensures)
+    let a = c .before .before .before .before .before .before .before .before .before .before .before .before .before .before .before .before .before .before .before .before .before .before .before .before .args in
+    asked-by (a .opening) (a .settings) (a .keys) (a .purse) (a .log) (a .channel) (a .ins) (now (a .x)) (c .before .before .before .before .before .before .before .before .before .before .before .before .before .before .before .before .before .before .before .before .before .byte-at .ensures) (c .before .before .before .before .before .before .before .before .before .before .before .before .before .before .before .before .before .before .before .before .acting .ensures) (c .before .before .before .before .before .before .before .before .before .before .before .before .before .before .before .before .before .before .before .access-to .ensures) (c .before .before .before .before .before .before .before .before .before .before .before .before .before .before .before .before .before .before .is-maced .ensures) (c .before .before .before .before .before .before .before .before .before .before .before .before .before .before .before .before .before .carries .ensures) (c .before .before .before .before .before .before .before .before .before .before .before .before .before .before .before .before .plain .ensures) (c .before .before .before .before .before .before .before .before .before .before .before .before .before .before .before .unknown-command .ensures) (c .before .before .before .before .before .before .before .before .before .before .before .before .before .before .interrupts .ensures) (c .before .before .before .before .before .before .before .before .before .before .before .before .before .wrong-length .ensures) (c .before .before .before .before .before .before .before .before .before .before .before .before .lacks-mac .ensures) (c .before .before .before .before .before .before .before .before .before .before .before .unknown-file .ensures) (c .before .before .before .before .before .before .before .before .before .before .other-kind-or-never .ensures) (c .before .before .before .before .before .before .before .before .before .not-granted .ensures) (c .before .before .before .before .before .before .before .before .part-fails .ensures) (c .before .before .before .before .before .before .before .is-forged .ensures) (c .before .before .before .before .before .before .used-up .ensures) (c .before .before .before .before .before .switched-off .ensures) (c .before .before .before .before .bad-parameter .ensures) (c .before .before .before .is-outside .ensures) (c .before .before .is-long-read .ensures) (c .nothing-pending .ensures)
 
 pub asked-spec : {M : Type 1} → statement M
 asked-spec =
@@ -77,6 +79,7 @@ asked-spec =
     acting-requires
     access-to-requires
     is-maced-requires
+    carries-requires
     plain-requires
     unknown-command-requires
     interrupts-requires

@@ -7,7 +7,7 @@ is-waiting-requires c κs = tt
 
 returns : tie.Need-returns
 unfolding interrupts
-returns c = simp (c .is-waiting .ensures)
+returns c = simp (c .before .is-waiting .ensures)
 
 pub interrupts-spec : {M : Type 1} → statement M
 interrupts-spec = tie.close (tie.spec is-waiting-requires returns)

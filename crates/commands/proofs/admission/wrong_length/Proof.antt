@@ -3,8 +3,8 @@ use borrow.Author.Needs.{needs}
 use Rattle.commands.proofs.admission.wrong_length.Statement.{statement}
 use Rattle.commands.proofs.admission.wrong_length.Tie as tie
 
-le3-at-requires : tie.Need-le3-at-requires
-le3-at-requires c κs = tt
+sent-requires : tie.Need-sent-requires
+sent-requires c κs = search needs
 
 cast-with-bytes : tie.Need-cast-with-bytes
 cast-with-bytes c = search needs
@@ -13,7 +13,7 @@ add-with-bytes : tie.Need-add-with-bytes
 add-with-bytes c = search needs
 
 byte-at-requires : tie.Need-byte-at-requires
-byte-at-requires c κs = tt
+byte-at-requires c κs = search needs
 
 cast-with-caps : tie.Need-cast-with-caps
 cast-with-caps c = search needs
@@ -23,13 +23,13 @@ add-with-caps c = search needs
 
 returns : tie.Need-returns
 unfolding lengthCases
-returns c = simp (c .before .le3-at .ensures, c .byte-at .ensures)
+returns c = simp (c .before .sent .ensures, c .byte-at .ensures)
 
 pub wrong-length-spec : {M : Type 1} → statement M
 wrong-length-spec =
     tie.close
     (tie.spec
-    le3-at-requires
+    sent-requires
     cast-with-bytes
     add-with-bytes
     byte-at-requires

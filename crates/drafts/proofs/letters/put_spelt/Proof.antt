@@ -1,5 +1,5 @@
 use Rattle.drafts.proofs.Steps.{writes-as}
-use Rattle.drafts.proofs.Lettered.{bytes-by, by-m, by-a, by-n, by-over, by-other}
+use Rattle.drafts.proofs.Lettered.{bytes-by, by-m, by-a, by-n, by-c, by-over, by-other}
 use Rattle.drafts.specs.Drafts.{unchanged}
 use Rattle.held.specs.declared.Draft.{Draft}
 use lib.Dec.{eqb}
@@ -39,8 +39,8 @@ same-length-3 c = search needs
 returns-3 : tie.Need-returns-3
 returns-3 c = let s = c .before .before .before .before .before .before .before .before .before .before .before in let a = s .args in writes-as (now (a .text)) _ _ (ap (λ (d : Draft). unchanged d (now (a .line))) (c .before .before .before .before .noted .ensures) ∙ by-n (a .draft) (now (a .line)) (a .letter) (a .n) (a .digits) (now (a .b)) (c .before .before .before .before .before .before .before .if1 .left) (c .before .before .before .before .before .before .if2 .left) (c .before .before .before .before .before .if3 .taken)) (c .before .before .put-same .ensures)
 
-over-requires : tie.Need-over-requires
-over-requires c κs = search needs
+counted-requires : tie.Need-counted-requires
+counted-requires c κs = search needs
 
 put-same-requires-2 : tie.Need-put-same-requires-2
 put-same-requires-2 c κs = search needs
@@ -49,7 +49,14 @@ same-length-4 : tie.Need-same-length-4
 same-length-4 c = search needs
 
 returns-4 : tie.Need-returns-4
-returns-4 c = let s = c .before .before .before .before .before .before .before .before .before .before .before .before in let a = s .args in writes-as (now (a .text)) _ _ (ap (λ (d : Draft). unchanged d (now (a .line))) (c .before .before .before .before .over .ensures) ∙ by-over (a .draft) (now (a .line)) (a .letter) (a .n) (a .digits) (now (a .b)) (c .before .before .before .before .before .before .before .before .if1 .left) (c .before .before .before .before .before .before .before .if2 .left) (c .before .before .before .before .before .before .if3 .left) (c .before .before .before .before .before .if4 .taken)) (c .before .before .put-same2 .ensures)
+returns-4 c =
+    let a = c .before .before .before .before .before .before .before .before .before .before .before .before .args in
+    writes-as (now (a .text)) _ _
+    (ap (λ (d : Draft). unchanged d (now (a .line))) (c .before .before .before .before .counted .ensures) ∙ by-c (a .draft) (now (a .line)) (a .letter) (a .n) (a .digits) (now (a .b)) (c .before .before .before .before .before .before .before .before .if1 .left) (c .before .before .before .before .before .before .before .if2 .left) (c .before .before .before .before .before .before .if3 .left) (c .before .before .before .before .before .if4 .taken))
+    (c .before .before .put-same2 .ensures)
+
+over-requires : tie.Need-over-requires
+over-requires c κs = search needs
 
 put-same-requires-3 : tie.Need-put-same-requires-3
 put-same-requires-3 c κs = search needs
@@ -58,7 +65,24 @@ same-length-5 : tie.Need-same-length-5
 same-length-5 c = search needs
 
 returns-5 : tie.Need-returns-5
-returns-5 c = let s = c .before .before .before .before .before .before .before .before .before .before .before in let a = s .args in writes-as (now (a .text)) _ _ (by-other (a .draft) (now (a .line)) (a .letter) (a .n) (a .digits) (now (a .b)) (c .before .before .before .before .before .before .before .if1 .left) (c .before .before .before .before .before .before .if2 .left) (c .before .before .before .before .before .if3 .left) (c .before .before .before .before .if4 .left)) (c .before .before .put-same3 .ensures)
+returns-5 c =
+    let a = c .before .before .before .before .before .before .before .before .before .before .before .before .before .args in
+    writes-as (now (a .text)) _ _
+    (ap (λ (d : Draft). unchanged d (now (a .line))) (c .before .before .before .before .over .ensures) ∙ by-over (a .draft) (now (a .line)) (a .letter) (a .n) (a .digits) (now (a .b)) (c .before .before .before .before .before .before .before .before .before .if1 .left) (c .before .before .before .before .before .before .before .before .if2 .left) (c .before .before .before .before .before .before .before .if3 .left) (c .before .before .before .before .before .before .if4 .left) (c .before .before .before .before .before .if5 .taken))
+    (c .before .before .put-same3 .ensures)
+
+put-same-requires-4 : tie.Need-put-same-requires-4
+put-same-requires-4 c κs = search needs
+
+same-length-6 : tie.Need-same-length-6
+same-length-6 c = search needs
+
+returns-6 : tie.Need-returns-6
+returns-6 c =
+    let a = c .before .before .before .before .before .before .before .before .before .before .before .before .args in
+    writes-as (now (a .text)) _ _
+    (by-other (a .draft) (now (a .line)) (a .letter) (a .n) (a .digits) (now (a .b)) (c .before .before .before .before .before .before .before .before .if1 .left) (c .before .before .before .before .before .before .before .if2 .left) (c .before .before .before .before .before .before .if3 .left) (c .before .before .before .before .before .if4 .left) (c .before .before .before .before .if5 .left))
+    (c .before .before .put-same4 .ensures)
 
 pub put-spelt-spec : {M : Type 1} → statement M
 put-spelt-spec =
@@ -74,10 +98,14 @@ put-spelt-spec =
     put-same-requires
     same-length-3
     returns-3
-    over-requires
+    counted-requires
     put-same-requires-2
     same-length-4
     returns-4
+    over-requires
     put-same-requires-3
     same-length-5
-    returns-5)
+    returns-5
+    put-same-requires-4
+    same-length-6
+    returns-6)

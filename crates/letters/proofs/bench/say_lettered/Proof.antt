@@ -20,17 +20,23 @@ use Rattle.letters.proofs.bench.say_lettered.Tie as tie
 -- the bytes behind the letter are spelt
 module _ (k : tie.After-spell) where
   abbrev start : tie.Start
-  start = k .before .before .before .before
+  start = k .before .before .before .before .before
 
   abbrev rest : List ℕ
   rest = now (start .args .rest)
 
   there : (part (k .spell .last .1 .0) 0 (k .spell .result) ≡ leading rest) × (k .spell .result ≡ length (leading rest)) × (k .spell .result ≤ length (k .spell .last .1 .0))
-  there = spelt-there rest (replicate 104 0) _ _ (omega (arith, k .before .before .if1 .left)) (k .spell .ensures)
+  there = spelt-there rest (replicate 104 0) _ _ (omega (arith, k .before .before .if2 .left)) (k .spell .ensures)
+
+say-chained-requires : tie.Need-say-chained-requires
+say-chained-requires c κs = (c .if1 .taken, c .before .before .pre)
 
 returns : tie.Need-returns
+returns c = c .say-chained .ensures
+
+returns-2 : tie.Need-returns-2
 unfolding saidOf noticeText unread
-returns c = let a = c .before .before .args in lettered-long (a .desk) (a .letter) (now (a .rest)) (c .if1 .taken)
+returns-2 c = let a = c .before .before .before .args in lettered-long (a .desk) (a .letter) (now (a .rest)) (c .before .if1 .left) (c .if2 .taken)
 
 slice-aggregate-spell : tie.Need-slice-aggregate-spell
 slice-aggregate-spell c = search needs
@@ -51,12 +57,12 @@ part-say-spelt-end : tie.Need-part-say-spelt-end
 part-say-spelt-end c = omega (arith, there (c .before .before) .2)
 
 say-spelt-requires : tie.Need-say-spelt-requires
-say-spelt-requires c κs e =
+say-spelt-requires c κs =
     let k = c .before .before .before in
-    omega (arith, eqb-true (2 * k .spell .result) (length (rest k)) e, length-part (k .spell .last .1 .0) 0 (k .spell .result) (there k .2))
+    (c .before .before .before .before .before .before .if1 .left, λ e. omega (arith, eqb-true (2 * k .spell .result) (length (rest k)) e, length-part (k .spell .last .1 .0) 0 (k .spell .result) (there k .2)))
 
-returns-2 : tie.Need-returns-2
-returns-2 c =
+returns-3 : tie.Need-returns-3
+returns-3 c =
     let k = c .before .before .before .before in
     c .say-spelt .ensures ∙ lettered-by (start k .args .desk) (start k .args .letter) (rest k) _ _ (there k .0) (there k .1)
 
@@ -64,7 +70,9 @@ pub say-lettered-spec : {M : Type 1} → statement M
 say-lettered-spec =
     tie.close
     (tie.spec
+    say-chained-requires
     returns
+    returns-2
     slice-aggregate-spell
     spell-requires
     mul-digits
@@ -72,4 +80,4 @@ say-lettered-spec =
     part-say-spelt-start
     part-say-spelt-end
     say-spelt-requires
-    returns-2)
+    returns-3)

@@ -2,12 +2,12 @@ use Rattle.notices.specs.Notices.{noticeText}
 use Rattle.letters.specs.Letters.{saidOf, unread, counted, lent, bookKept, letteredBy}
 use Rattle.access.specs.declared.Session.the-variants.{Key}
 use Rattle.card.specs.Events.{sessionChanged}
-use Rattle.tables.specs.Choice.{order, and-yes}
+use Rattle.tables.specs.Choice.{order, or-no, and-yes, and-left}
 use borrow.Author.Tests.{eqb-true}
-use lib.Dec.{eqb}
+use lib.Dec.{eqb, leb}
 use native.Mathlib.Omega.{arith}
-use mathlib.Core.Bool.{_&&_}
-use mathlib.Core.Path.{ap, _∙_}
+use mathlib.Core.Bool.{false, _&&_}
+use mathlib.Core.Path.{_≡_, ap, _∙_}
 use Rattle.letters.proofs.bench.say_spelt.Statement.{statement}
 use Rattle.letters.proofs.bench.say_spelt.Tie as tie
 
@@ -52,7 +52,7 @@ hand-in-requires c κs =
     let s = c .before .before .before .before .before .before in
     let t = and-yes (eqb (s .args .letter) 0x4E && eqb (s .args .n) 40) (s .args .digits) (c .if5 .taken) in
     let n = and-yes (eqb (s .args .letter) 0x4E) (eqb (s .args .n) 40) (t .0) in
-    omega (arith, eqb-true (s .args .n) 40 (n .1), s .pre (t .1))
+    omega (arith, eqb-true (s .args .n) 40 (n .1), s .pre .1 (t .1))
 
 returns-5 : tie.Need-returns-5
 unfolding letteredBy
@@ -60,11 +60,21 @@ returns-5 c = c .hand-in .ensures ∙ search order depth 10
 
 returns-6 : tie.Need-returns-6
 unfolding letteredBy saidOf noticeText bookKept
-returns-6 c = search order depth 10
+returns-6 c =
+    let a = c .before .before .before .before .before .before .before .args in
+    let g = or-no (eqb (a .letter) 0x43) (eqb (a .letter) 0x44) (c .before .before .before .before .before .before .before .pre .0) in
+    let opens : (eqb (a .letter) 0x43 && leb 2 (a .n) && a .digits) ≡ false = and-left _ _ (and-left _ _ (g .0)) in
+    let sends : (eqb (a .letter) 0x44 && a .digits) ≡ false = and-left _ _ (g .1) in
+    search order depth 12
 
 returns-7 : tie.Need-returns-7
 unfolding letteredBy saidOf noticeText unread
-returns-7 c = search order depth 10
+returns-7 c =
+    let a = c .before .before .before .before .before .before .before .args in
+    let g = or-no (eqb (a .letter) 0x43) (eqb (a .letter) 0x44) (c .before .before .before .before .before .before .before .pre .0) in
+    let opens : (eqb (a .letter) 0x43 && leb 2 (a .n) && a .digits) ≡ false = and-left _ _ (and-left _ _ (g .0)) in
+    let sends : (eqb (a .letter) 0x44 && a .digits) ≡ false = and-left _ _ (g .1) in
+    search order depth 12
 
 pub say-spelt-spec : {M : Type 1} → statement M
 say-spelt-spec =
