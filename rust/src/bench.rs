@@ -11,11 +11,16 @@
 //! | `R` and 4 digits | the length of the reply buffer, at most 0200h | `!0` |
 //! | `N` and 40 digits | the card's random number and transaction identifier | `!0` |
 //! | `B` | nothing | the books |
+//! | `L` | nothing | the slot bytes that the last event stored, in decimal |
 //! | any other, or more than 1,024 characters | nothing | `?` |
+//!
+//! The lines of the first six sorts are events, also where the bench refuses
+//! them; before the first event nothing is stored.
 
 use crate::hex::{decode, put_hex};
 use crate::model::{
-    BenchRefusal, Card, Inputs, Mode, Personalisation, Session, KEYS, PROGRAM_CARD, REPLY_ROOM,
+    BenchRefusal, Card, Inputs, Mode, Personalisation, Reply, Session, KEYS, PROGRAM_CARD,
+    REPLY_ROOM,
 };
 use std::io::Write;
 
@@ -39,6 +44,8 @@ pub struct Bench {
     reply: Vec<u8>,
     /// The bytes of the line at hand.
     bytes: Vec<u8>,
+    /// The slot bytes that the last event stored.
+    stored: usize,
 }
 
 impl Default for Bench {
@@ -56,6 +63,7 @@ impl Bench {
             inputs: Inputs::default(),
             reply: vec![0; REPLY_ROOM],
             bytes: Vec::with_capacity(LONGEST_LINE / 2),
+            stored: 0,
         }
     }
 
@@ -67,6 +75,11 @@ impl Bench {
     /// What is handed in with each event.
     pub fn inputs(&self) -> &Inputs {
         &self.inputs
+    }
+
+    /// The slot bytes that the last event stored.
+    pub fn stored(&self) -> usize {
+        self.stored
     }
 
     /// The length of the reply buffer lent to commands.
@@ -88,11 +101,15 @@ impl Bench {
             return None;
         }
         match line {
-            [] => self.card.power_up(),
+            [] => {
+                self.card.power_up();
+                self.stored = 0;
+            }
             b"B" => self.books(out),
-            b"S" => put_outcome(self.card.change_session(None), out),
+            b"L" => write!(out, "{}", self.stored).expect("a Vec takes every write"),
+            b"S" => self.change_session(None, out),
             [b'S', digits @ ..] => match self.decode(digits)? {
-                &[key] => put_outcome(self.card.change_session(Some(key)), out),
+                &[key] => self.change_session(Some(key), out),
                 _ => return None,
             },
             [b'R', digits @ ..] => match self.decode(digits)? {
@@ -117,6 +134,7 @@ impl Bench {
                     Err(refusal) => (Card::blank(), Err(refusal)),
                 };
                 self.card = card;
+                self.stored = 0;
                 put_outcome(outcome, out);
             }
             // Before an odd number of digits, either letter is one more digit of
@@ -125,30 +143,38 @@ impl Bench {
                 if self.decode(digits)?.is_empty() {
                     return None;
                 }
-                let length = self.card.open_chain(&self.bytes, &mut self.reply);
-                self.put_reply(length, out);
+                let reply = self.card.open_chain(&self.bytes, &mut self.reply);
+                self.put_reply(reply, out);
             }
             [b'D', digits @ ..] if digits.len() % 2 == 0 => {
                 self.decode(digits)?;
-                let length = self.card.file_frame(&self.bytes, &mut self.reply);
-                self.put_reply(length, out);
+                let reply = self.card.file_frame(&self.bytes, &mut self.reply);
+                self.put_reply(reply, out);
             }
             digits => {
                 self.decode(digits)?;
-                let length = self
+                let reply = self
                     .card
                     .command(&self.bytes, &self.inputs, &mut self.reply);
-                self.put_reply(length, out);
+                self.put_reply(reply, out);
             }
         }
         Some(())
     }
 
-    /// Appends a reply of this length, or the bench refusal.
+    /// A session change, refused or not.
+    fn change_session(&mut self, key: Option<u8>, out: &mut Vec<u8>) {
+        put_outcome(self.card.change_session(key), out);
+        self.stored = 0;
+    }
+
+    /// Appends the reply of a command or a frame of a chain, or the bench
+    /// refusal.
     #[inline]
-    fn put_reply(&self, length: Result<usize, BenchRefusal>, out: &mut Vec<u8>) {
-        match length {
-            Ok(length) => put_hex(&self.reply[..length], out),
+    fn put_reply(&mut self, reply: Result<Reply, BenchRefusal>, out: &mut Vec<u8>) {
+        self.stored = reply.map_or(0, |reply| reply.stored);
+        match reply {
+            Ok(reply) => put_hex(&self.reply[..reply.length], out),
             Err(refusal) => put_outcome(Err(refusal), out),
         }
     }
@@ -507,6 +533,75 @@ mod tests {
             "C908D0000070000000003000000\nR0101\nD\nC90\nD01\n90\nR0102\nB\nD010203",
             "\n!0\n!5\n!5\n!5\n!5\n!0\n100 100 0 0 0 0 w -\n9100\n",
         );
+    }
+
+    const WRITE: &str = "908B00000801000000010000AA00";
+
+    #[test]
+    fn stored_bytes_of_commits() {
+        check("L", "0\n");
+        check(&format!("{WRITE}\nL\n90C7000000\nL"), "9100\n0\n9100\n16\n");
+        // Of two writes into one entry, beside a value operation, with an option.
+        check(
+            &format!("{WRITE}\n{WRITE}\n90DC000005030100000000\n90C70000010000\nL"),
+            "9100\n9100\n9100\n9100\n16\n",
+        );
+        check("90DC000005030100000000\n90C7000000\nL", "9100\n9100\n0\n");
+        // A clear drops the entry, and stores nothing.
+        check(
+            &format!("{WRITE}\n90EB0000010100\n90C7000000\nL"),
+            "9100\n9100\n9100\n0\n",
+        );
+        // A full log stores no more than an empty one.
+        for entries in 1..=6 {
+            let commits = format!("{WRITE}\n90C7000000\n").repeat(entries);
+            let answers = "9100\n".repeat(2 * entries);
+            check(&format!("{commits}L"), &format!("{answers}16\n"));
+        }
+    }
+
+    #[test]
+    fn stored_bytes_are_those_of_the_last_event() {
+        let stored = format!("{WRITE}\n90C7000000\n");
+        let personalise = "PEEEEEEEEEEEEEEEEEEEE00000000E80300006400000001";
+        for (event, answer) in [
+            ("", ""),
+            ("S03", "!0"),
+            ("S", "!0"),
+            ("S05", "!4"),
+            (personalise, "!0"),
+            (&personalise.replacen('E', "5", 1), "!1"),
+            ("906C0000010300", "640000009100"),
+            ("906C0000010700", "91F0"),
+            ("90C7000000", "910C"),
+            ("90A7000000", "910C"),
+            ("9071000002000000", "66E94BD4EF8A2C3B884CFA59CA342B2E91AF"),
+            ("C908D0000070000000002000000", ""),
+            ("C90", "6700"),
+            ("D", "911C"),
+            ("C9", "6700"),
+        ] {
+            check(
+                &format!("{stored}{event}\nL"),
+                &format!("9100\n9100\n{answer}\n0\n"),
+            );
+        }
+        for event in ["906C0000010300", "C90", "D00"] {
+            check(
+                &format!("{stored}R0101\nL\n{event}\nL"),
+                "9100\n9100\n!0\n16\n!5\n0\n",
+            );
+        }
+        let inputs = "N".to_owned() + &"0".repeat(40);
+        check(
+            &format!("{stored}{inputs}\nL\nR0102\nL\nB\nL\nL"),
+            "9100\n9100\n!0\n16\n!0\n16\n100 100 0 0 0 1 - -\n16\n16\n",
+        );
+        for line in [
+            "LL", "L0", "L00", "L16", "L ", " L", "l", "9", "S0", "R0201", "C", "P", "N", "?",
+        ] {
+            check(&format!("{stored}{line}\nL"), "9100\n9100\n?\n16\n");
+        }
     }
 
     #[test]

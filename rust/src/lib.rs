@@ -3,11 +3,13 @@
 //! scripts of such lines.
 //!
 //! * [`model`]: the card.
+//! * [`ring`]: the slots of its log.
 //! * [`messaging`]: its sessions with MACs, and [`aes`] and [`cmac`] below them.
 //! * [`mod@bench`]: one bench line in, one answer line out.
 //! * [`scripts`]: deterministic scripts of bench lines for comparing programs,
 //!   and [`tally`], what they contain.
 //! * [`timing`]: such scripts for timing programs.
+//! * [`wear`]: one for the wear of the log's slots.
 //! * [`terminal`]: what a terminal sends, for both.
 //! * [`frames`], [`hex`], [`rng`]: what both are made with.
 //! * [`child`]: running another bench program on a script.
@@ -27,8 +29,10 @@ pub mod hex;
 pub mod messaging;
 pub mod model;
 pub mod reader;
+pub mod ring;
 pub mod rng;
 pub mod scripts;
 pub mod tally;
 pub mod terminal;
 pub mod timing;
+pub mod wear;

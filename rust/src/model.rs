@@ -37,7 +37,7 @@ pub const LONGEST_MAC_READ: usize = 248;
 pub const ROWS: usize = 16;
 
 /// One entry of the log.
-type Entry = [u8; ENTRY_SIZE];
+pub type Entry = [u8; ENTRY_SIZE];
 
 /// Why the bench refuses an event ("Events", the table of bench refusals).
 /// Number 6, a card that breaks a standing rule, cannot be met here: the
@@ -478,13 +478,59 @@ impl Status {
     }
 }
 
-/// What an accepted command replies.
+/// What an accepted command replies, and what it did to the log's slots.
 #[derive(Clone, Copy, Debug, PartialEq, Eq)]
 pub struct Accepted {
     /// The number of bytes before the status: data, and the MAC if there is one.
     pub length: usize,
     /// The status.
     pub status: Status,
+    /// The slot bytes stored.
+    pub stored: usize,
+}
+
+/// What the bench learns of a command or a frame of a chain, beside the bytes in
+/// its buffer. The other events have no reply and store nothing.
+#[derive(Clone, Copy, Debug, Default, PartialEq, Eq)]
+pub struct Reply {
+    /// The reply's length.
+    pub length: usize,
+    /// The slot bytes stored (request 08): 16 for a commit with a new entry, 0
+    /// for all else.
+    pub stored: usize,
+}
+
+impl Reply {
+    /// A reply to what stored nothing.
+    fn of_length(length: usize) -> Self {
+        Self { length, stored: 0 }
+    }
+}
+
+/// What a base command or GetFileSettings did, apart from its effect.
+#[derive(Clone, Copy, Debug, Default, PartialEq, Eq)]
+struct Done {
+    /// The data bytes put into the reply.
+    shown: usize,
+    /// The slot bytes stored.
+    stored: usize,
+}
+
+impl Done {
+    /// A command that shows data.
+    fn showing(shown: usize) -> Self {
+        Self { shown, stored: 0 }
+    }
+
+    /// A command that shows nothing and stores this much.
+    fn storing(stored: usize) -> Self {
+        Self { shown: 0, stored }
+    }
+
+    /// A command that does neither.
+    fn neither((): ()) -> Self {
+        Self::default()
+    }
 }
 
 /// What an INS of the command table asks for.
@@ -917,21 +963,23 @@ impl Card {
     }
 
     /// A command. The reply is put at the start of `reply`, whose rest is left
-    /// as it was; the result is the reply's length.
+    /// as it was; the result has the reply's length.
     pub fn command(
         &mut self,
         frame: &[u8],
         inputs: &Inputs,
         reply: &mut [u8],
-    ) -> Result<usize, BenchRefusal> {
+    ) -> Result<Reply, BenchRefusal> {
         if reply.len() < REPLY_ROOM {
             return Err(BenchRefusal::ReplyRoom);
         }
-        let (length, status) = match self.answer(frame, inputs, reply) {
-            Ok(accepted) => (accepted.length, accepted.status.word()),
-            Err(refusal) => (0, refusal.status()),
-        };
-        Ok(put_status(status, length, reply))
+        Ok(match self.answer(frame, inputs, reply) {
+            Ok(accepted) => Reply {
+                length: put_status(accepted.status.word(), accepted.length, reply),
+                stored: accepted.stored,
+            },
+            Err(refusal) => Reply::of_length(put_status(refusal.status(), 0, reply)),
+        })
     }
 
     /// A command without its status in the reply: what is put into `reply`, or
@@ -1004,6 +1052,7 @@ impl Card {
         Ok(Accepted {
             length: secret.len(),
             status: Status::More,
+            stored: 0,
         })
     }
 
@@ -1027,6 +1076,7 @@ impl Card {
         Ok(Accepted {
             length: bytes.len(),
             status: Status::Done,
+            stored: 0,
         })
     }
 
@@ -1039,10 +1089,11 @@ impl Card {
     ) -> Result<Accepted, Refusal> {
         let order = self.order(instruction, data)?;
         let command = Command::parse(&order)?;
-        let length = self.execute(&order, command, reply)?;
+        let done = self.execute(&order, command, reply)?;
         Ok(Accepted {
-            length: self.count(&order, length, reply),
+            length: self.count(&order, done.shown, reply),
             status: Status::Done,
+            stored: done.stored,
         })
     }
 
@@ -1164,43 +1215,52 @@ impl Card {
         length + MAC_SIZE
     }
 
-    /// Places 7 to 13, and the command's work: the number of data bytes put
-    /// into `reply`. A refusal changes nothing here.
+    /// Places 7 to 13, and the command's work. A refusal changes nothing here.
     fn execute(
         &mut self,
         order: &Order,
         command: Command,
         reply: &mut [u8],
-    ) -> Result<usize, Refusal> {
+    ) -> Result<Done, Refusal> {
         match command {
             Command::ReadData {
                 file,
                 offset,
                 length,
-            } => self.read_data(order, file, offset, length, reply),
+            } => self
+                .read_data(order, file, offset, length, reply)
+                .map(Done::showing),
             Command::WriteData {
                 file,
                 offset,
                 bytes,
-            } => self.write_data(order, file, offset, bytes).map(|()| 0),
-            Command::GetValue { file } => self.get_value(order, file, reply),
-            Command::Credit { file, amount } => self.credit(order, file, amount).map(|()| 0),
-            Command::Debit { file, amount } => self.debit(order, file, amount).map(|()| 0),
+            } => self
+                .write_data(order, file, offset, bytes)
+                .map(Done::neither),
+            Command::GetValue { file } => self.get_value(order, file, reply).map(Done::showing),
+            Command::Credit { file, amount } => self.credit(order, file, amount).map(Done::neither),
+            Command::Debit { file, amount } => self.debit(order, file, amount).map(Done::neither),
             Command::LimitedCredit { file, amount } => {
-                self.limited_credit(order, file, amount).map(|()| 0)
+                self.limited_credit(order, file, amount).map(Done::neither)
             }
-            Command::ReadRecords { file, entry, count } => {
-                self.read_records(order, file, entry, count, reply)
-            }
+            Command::ReadRecords { file, entry, count } => self
+                .read_records(order, file, entry, count, reply)
+                .map(Done::showing),
             Command::WriteRecord {
                 file,
                 offset,
                 bytes,
-            } => self.write_record(order, file, offset, bytes).map(|()| 0),
-            Command::ClearRecordFile { file } => self.clear_record_file(order, file).map(|()| 0),
-            Command::Commit { option } => self.commit(order, option).map(|()| 0),
-            Command::Abort => self.abort(order).map(|()| 0),
-            Command::GetFileSettings { file } => self.get_file_settings(order, file, reply),
+            } => self
+                .write_record(order, file, offset, bytes)
+                .map(Done::neither),
+            Command::ClearRecordFile { file } => {
+                self.clear_record_file(order, file).map(Done::neither)
+            }
+            Command::Commit { option } => self.commit(order, option).map(Done::storing),
+            Command::Abort => self.abort(order).map(Done::neither),
+            Command::GetFileSettings { file } => self
+                .get_file_settings(order, file, reply)
+                .map(Done::showing),
         }
     }
 
@@ -1391,8 +1451,10 @@ impl Card {
         Ok(())
     }
 
-    /// CommitTransaction ("Command table", **Ends**, **Allowance**, **Log**).
-    fn commit(&mut self, order: &Order, option: u8) -> Result<(), Refusal> {
+    /// CommitTransaction ("Command table", **Ends**, **Allowance**, **Log**): the
+    /// slot bytes stored (request 08), which are those of the new entry, since
+    /// no other entry moves.
+    fn commit(&mut self, order: &Order, option: u8) -> Result<usize, Refusal> {
         self.check_integrity(order)?;
         if option != 0x00 {
             return Err(Refusal::BadParameter);
@@ -1408,15 +1470,18 @@ impl Card {
                 None => work.allowance,
             };
         }
-        match pending.log {
-            None => {}
+        Ok(match pending.log {
+            None => 0,
             Some(LogWork::NewEntry(entry)) => {
                 self.log.entries.push_front(entry);
                 self.log.entries.truncate(LOG_ENTRIES);
+                entry.len()
             }
-            Some(LogWork::Clear) => self.log.entries.clear(),
-        }
-        Ok(())
+            Some(LogWork::Clear) => {
+                self.log.entries.clear();
+                0
+            }
+        })
     }
 
     /// AbortTransaction ("Command table", **Ends**): keeps the session.
@@ -1486,6 +1551,19 @@ impl Card {
             clear_pending: matches!(self.pending.log, Some(LogWork::Clear)),
             chain_open: self.chain.is_some(),
             session: self.session,
+        }
+    }
+
+    /// The committed entries of the log, the newest first.
+    pub fn entries(&self) -> impl Iterator<Item = &Entry> {
+        self.log.entries.iter()
+    }
+
+    /// The entry that the next commit puts in front.
+    pub fn new_entry(&self) -> Option<&Entry> {
+        match &self.pending.log {
+            Some(LogWork::NewEntry(entry)) => Some(entry),
+            _ => None,
         }
     }
 

@@ -18,8 +18,9 @@ pub use sessions::SealFault;
 use crate::bench::Bench;
 use crate::frames::{file_place, hex_line, Script};
 use crate::model::{Accepted, Condition, Refusal, REPLY_ROOM};
+use crate::ring::Ring;
 use crate::rng::Rng;
-use crate::tally::{LineSort, Tally};
+use crate::tally::{LastEvent, LineSort, Tally};
 use chains::OverChain;
 
 /// What a script is about.
@@ -91,6 +92,12 @@ pub struct Writer {
     open: u64,
     /// The last chain, while its file has not been read back.
     over: Option<OverChain>,
+    /// The last event.
+    last: LastEvent,
+    /// The sort of the last line.
+    behind: LineSort,
+    /// The slots of the log.
+    ring: Ring,
     /// What all scripts so far contain.
     pub tally: Tally,
 }
@@ -107,19 +114,33 @@ impl Writer {
             answer: Vec::new(),
             open: 0,
             over: None,
+            last: LastEvent::None,
+            behind: LineSort::Other,
+            ring: Ring::default(),
             tally: Tally::default(),
         }
     }
 
-    /// The next script, of at least `lines` lines for a new bench.
-    pub fn script(&mut self, lines: usize) -> Script {
+    /// Begins a script, for a new bench.
+    fn begin(&mut self, theme: Theme) {
         self.bench = Bench::new();
-        self.theme = self
-            .rng
-            .pick(&[Theme::Base, Theme::Sessions, Theme::Sessions, Theme::Chains]);
+        self.theme = theme;
         self.mood = Mood::CALM;
         self.open = 0;
         self.over = None;
+        self.last = LastEvent::None;
+        self.behind = LineSort::Other;
+        self.ring = Ring::default();
+    }
+
+    /// The next script, of at least `lines` lines for a new bench.
+    pub fn script(&mut self, lines: usize) -> Script {
+        let themes = [Theme::Base, Theme::Sessions, Theme::Sessions, Theme::Chains];
+        let theme = self.rng.pick(&themes);
+        self.begin(theme);
+        if self.rng.percent(50) {
+            self.line(b"L".to_vec());
+        }
         if self.rng.percent(70) {
             self.personalise();
         }
@@ -187,7 +208,9 @@ impl Writer {
         }
     }
 
-    /// One event or other line, and a `B` line after every third or so.
+    /// One event or other line, and a `B` line after every third or so. Some of
+    /// the lines that are no events come between a store and the question after
+    /// it.
     fn step(&mut self) {
         let blank = self.is_blank();
         let has_room = self.bench.room() >= REPLY_ROOM;
@@ -216,6 +239,21 @@ impl Writer {
         if self.rng.percent(33) {
             self.line(b"B".to_vec());
         }
+        if self.bench.stored() > 0 && self.rng.percent(30) {
+            self.ask_later();
+        }
+    }
+
+    /// An `L` line behind another that is no event.
+    fn ask_later(&mut self) {
+        match self.rng.below(5) {
+            0 => self.line(b"B".to_vec()),
+            1 => self.line(b"L".to_vec()),
+            2 => self.room(),
+            3 if self.theme != Theme::Base => self.inputs(),
+            _ => self.other(),
+        }
+        self.line(b"L".to_vec());
     }
 
     /// A line that is no command, or an authentication.
@@ -243,10 +281,25 @@ impl Writer {
         })
     }
 
-    /// Sends a line to the bench at the side and counts it.
+    /// Sends a line, and at times asks what it stored: seldom after what there is
+    /// much of.
     fn line(&mut self, line: Vec<u8>) {
+        self.put_line(line);
+        let asks = match self.last {
+            LastEvent::Accepted | LastEvent::Frame | LastEvent::Refused => 4,
+            _ => 25,
+        };
+        if self.behind.is_event() && self.rng.percent(asks) {
+            self.put_line(b"L".to_vec());
+        }
+    }
+
+    /// Sends a line to the bench at the side and counts it.
+    fn put_line(&mut self, line: Vec<u8>) {
         let waits = self.waiting().is_some();
         let chain = self.chain();
+        let books = self.bench.card().books();
+        let entry = self.bench.card().new_entry().copied();
         self.answer.clear();
         self.bench.line(&line, &mut self.answer);
         let sort = LineSort::of(&line, &self.answer);
@@ -256,6 +309,7 @@ impl Writer {
         if let Some(chain) = chain {
             self.count_in_mid_chain(sort, chain);
         }
+        self.count_slots(sort, &line, &books, entry);
         self.lines.push(line);
     }
 
@@ -388,7 +442,7 @@ mod tests {
     #[test]
     fn scripts_meet_everything_often() {
         let mut writer = Writer::new(3);
-        while writer.tally.events() < 130_000 {
+        while writer.tally.events() < 160_000 {
             writer.script(3000);
         }
         let tally = &writer.tally;
@@ -526,6 +580,34 @@ mod tests {
             tally.read_back.iter().all(|&count| count >= 2000),
             "{tally}"
         );
+    }
+
+    #[test]
+    fn scripts_ask_what_was_stored_often() {
+        let mut writer = Writer::new(6);
+        while writer.tally.events() < 200_000 {
+            writer.script(3000);
+        }
+        let tally = &writer.tally;
+        println!("{tally}");
+        for (event, &count) in LastEvent::ALL.iter().zip(&tally.asked) {
+            let least = match event {
+                LastEvent::Entry | LastEvent::EntryAndValue => 300,
+                LastEvent::Value | LastEvent::Clear | LastEvent::Abort => 100,
+                _ => 20,
+            };
+            assert!(count >= least, "{event:?}: {tally}");
+        }
+        for (sort, &count) in LineSort::ALL.iter().zip(&tally.asked_behind) {
+            match sort {
+                LineSort::Command => assert!(count >= 300, "{tally}"),
+                _ if sort.is_event() => assert_eq!(count, 0, "{tally}"),
+                _ => assert!(count >= 20, "{tally}"),
+            }
+        }
+        // Every place of the ring, with every number of entries.
+        let reads = tally.log_reads.iter().flatten();
+        assert!(reads.into_iter().all(|&count| count >= 50), "{tally}");
     }
 
     #[test]

@@ -1,7 +1,7 @@
 //! What scripts contain.
 
 use crate::frames::ins;
-use crate::model::{Refusal, KEYS, ROWS};
+use crate::model::{Books, Refusal, KEYS, LOG_ENTRIES, ROWS};
 use crate::scripts::{FrameFault, SealFault};
 use std::fmt::{self, Display, Formatter};
 
@@ -109,6 +109,14 @@ pub struct Tally {
     /// Reads of a file after a chain that was finished, and after one that was
     /// cut.
     pub read_back: [u64; 2],
+    /// `L` lines by the last event before them.
+    pub asked: [u64; LastEvent::ALL.len()],
+    /// Those answered 16, by the sort of the line before them, which is the
+    /// commit itself or no event.
+    pub asked_behind: [u64; LineSort::ALL.len()],
+    /// Reads of the log by the slot of its newest entry and by the number of its
+    /// entries.
+    pub log_reads: [[u64; LOG_ENTRIES]; LOG_ENTRIES],
 }
 
 /// The sorts of lines.
@@ -126,6 +134,8 @@ pub enum LineSort {
     Personalisation,
     /// `B`.
     Books,
+    /// `L`.
+    Stored,
     /// `N`.
     Inputs,
     /// A line answered `?`.
@@ -146,13 +156,14 @@ pub enum LineSort {
 
 impl LineSort {
     /// All sorts.
-    pub const ALL: [Self; 14] = [
+    pub const ALL: [Self; 15] = [
         Self::PowerUp,
         Self::Session,
         Self::NoKey,
         Self::Room,
         Self::Personalisation,
         Self::Books,
+        Self::Stored,
         Self::Inputs,
         Self::Other,
         Self::NoRoom,
@@ -163,6 +174,14 @@ impl LineSort {
         Self::FileFrame,
     ];
 
+    /// Whether lines of this sort are events, refused or not.
+    pub fn is_event(self) -> bool {
+        !matches!(
+            self,
+            Self::Room | Self::Books | Self::Stored | Self::Inputs | Self::Other
+        )
+    }
+
     /// The sort of a line with this answer.
     pub fn of(line: &[u8], answer: &[u8]) -> Self {
         let refused = answer.starts_with(b"!");
@@ -170,6 +189,7 @@ impl LineSort {
             _ if answer == b"?\n" => Self::Other,
             [] => Self::PowerUp,
             b"B" => Self::Books,
+            b"L" => Self::Stored,
             [b'S', ..] if answer != b"!0\n" => Self::NoKey,
             [b'S', ..] => Self::Session,
             [b'R', ..] => Self::Room,
@@ -186,6 +206,109 @@ impl LineSort {
             _ if refused => Self::NoRoom,
             _ => Self::Command,
         }
+    }
+}
+
+/// The sorts of events by what they may do to the log's slots.
+#[derive(Clone, Copy, Debug, PartialEq, Eq)]
+pub enum LastEvent {
+    /// There was no event yet.
+    None,
+    /// A commit of a new entry alone.
+    Entry,
+    /// One of a new entry and of figures.
+    EntryAndValue,
+    /// One of figures alone.
+    Value,
+    /// One of a clear.
+    Clear,
+    /// An abort.
+    Abort,
+    /// Any other accepted command.
+    Accepted,
+    /// A refused command.
+    Refused,
+    /// One that dropped a new entry.
+    EntryDropped,
+    /// A command that the bench refused.
+    NoRoom,
+    /// An accepted frame of a chain.
+    Frame,
+    /// A refused one.
+    FrameRefused,
+    /// One that the bench refused.
+    FrameNoRoom,
+    /// A session change.
+    Session,
+    /// One that the bench refused.
+    NoKey,
+    /// A power-up.
+    PowerUp,
+    /// A personalisation.
+    Personalised,
+    /// A refused one, which leaves the blank card.
+    Blank,
+}
+
+impl LastEvent {
+    /// All sorts.
+    pub const ALL: [Self; 18] = [
+        Self::None,
+        Self::Entry,
+        Self::EntryAndValue,
+        Self::Value,
+        Self::Clear,
+        Self::Abort,
+        Self::Accepted,
+        Self::Refused,
+        Self::EntryDropped,
+        Self::NoRoom,
+        Self::Frame,
+        Self::FrameRefused,
+        Self::FrameNoRoom,
+        Self::Session,
+        Self::NoKey,
+        Self::PowerUp,
+        Self::Personalised,
+        Self::Blank,
+    ];
+
+    /// The sort of an event with this line and answer, and with these books
+    /// before it; none of a line that is no event.
+    pub fn of(sort: LineSort, line: &[u8], answer: &[u8], before: &Books) -> Option<Self> {
+        let accepted = answer.ends_with(b"9100\n") || answer.ends_with(b"91AF\n");
+        Some(match sort {
+            _ if !sort.is_event() => return None,
+            LineSort::PowerUp => Self::PowerUp,
+            LineSort::Session => Self::Session,
+            LineSort::NoKey => Self::NoKey,
+            LineSort::Personalisation if answer == b"!0\n" => Self::Personalised,
+            LineSort::Personalisation => Self::Blank,
+            LineSort::NoRoom => Self::NoRoom,
+            LineSort::OpeningNoRoom | LineSort::FileFrameNoRoom => Self::FrameNoRoom,
+            LineSort::Opening | LineSort::FileFrame if accepted || answer == b"\n" => Self::Frame,
+            LineSort::Opening | LineSort::FileFrame => Self::FrameRefused,
+            LineSort::Command if accepted => Self::of_accepted(line, before),
+            _ if before.entry_pending => Self::EntryDropped,
+            _ => Self::Refused,
+        })
+    }
+
+    /// The sort of an accepted command.
+    fn of_accepted(line: &[u8], before: &Books) -> Self {
+        match line[2..4].to_ascii_uppercase().as_slice() {
+            b"C7" if before.entry_pending && before.value_pending => Self::EntryAndValue,
+            b"C7" if before.entry_pending => Self::Entry,
+            b"C7" if before.clear_pending => Self::Clear,
+            b"C7" => Self::Value,
+            b"A7" => Self::Abort,
+            _ => Self::Accepted,
+        }
+    }
+
+    /// Whether it is a commit with a new entry, which stores it.
+    pub fn stores(self) -> bool {
+        matches!(self, Self::Entry | Self::EntryAndValue)
     }
 }
 
@@ -251,10 +374,23 @@ impl Tally {
         write_counts(f, "91CA in mid-chain", instructions, self.interrupted)?;
         let places = self.mid_chain_places;
         write_counts(f, "before it by place", Refusal::PLACES, places)?;
-        write!(
+        writeln!(
             f,
             "read back after a chain that was finished and one that was cut {:?}",
             self.read_back
+        )
+    }
+
+    /// What was asked about the log's slots.
+    fn fmt_slots(&self, f: &mut Formatter) -> fmt::Result {
+        let events = LastEvent::ALL.map(|event| format!("{event:?}"));
+        write_counts(f, "L by the last event", events, self.asked)?;
+        let sorts = LineSort::ALL.map(|sort| format!("{sort:?}"));
+        write_counts(f, "L answered 16, behind", sorts, self.asked_behind)?;
+        write!(
+            f,
+            "reads of the log by the newest entry's slot and the number of entries {:?}",
+            self.log_reads
         )
     }
 
@@ -291,7 +427,7 @@ impl Display for Tally {
         writeln!(
             f,
             "lines {}: commands {} and {} without room, sessions {}, power-ups {}, \
-             personalisations {:?}, R {}, B {}, ? {}",
+             personalisations {:?}, R {}, B {}, L {}, ? {}",
             self.lines,
             self.commands,
             self.no_room,
@@ -300,6 +436,7 @@ impl Display for Tally {
             self.personalisations,
             self.rooms,
             self.books,
+            self.asked.iter().sum::<u64>(),
             self.others
         )?;
         write_counts(
@@ -325,6 +462,7 @@ impl Display for Tally {
             self.zero_amounts, self.pushed_out, self.held_sums, self.long_transactions
         )?;
         self.fmt_sessions(f)?;
-        self.fmt_chains(f)
+        self.fmt_chains(f)?;
+        self.fmt_slots(f)
     }
 }

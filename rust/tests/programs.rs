@@ -11,6 +11,7 @@ const COMPARE: &str = env!("CARGO_BIN_EXE_compare");
 const READER: &str = env!("CARGO_BIN_EXE_reader");
 const REFBENCH: &str = env!("CARGO_BIN_EXE_refbench");
 const SPEED: &str = env!("CARGO_BIN_EXE_speed");
+const WEAR: &str = env!("CARGO_BIN_EXE_wear");
 
 /// The example program with a fault, which `cargo test` builds too.
 fn faulty() -> PathBuf {
@@ -114,6 +115,24 @@ fn compare_shrinks_a_session() {
     assert!(text.contains("both      911E\n"), "{text}");
 }
 
+/// What is left needs two entries, each with its commit, and the question what
+/// the second stored.
+#[test]
+fn compare_sees_entries_that_move() {
+    let output = Command::new(COMPARE)
+        .args(["--events", "100000", "--ends", "0", "--stop", "--"])
+        .arg(faulty())
+        .arg("moves")
+        .output()
+        .unwrap();
+    let text = text(&output);
+    assert_eq!(output.status.code(), Some(1), "{text}");
+    let end = "    reference 16\n    program   32\n";
+    assert!(text.ends_with(end), "{text}");
+    let lines = text.matches("  line      ").count();
+    assert!((5..=12).contains(&lines), "{text}");
+}
+
 #[test]
 fn compare_sees_missing_answers() {
     let output = Command::new(COMPARE)
@@ -159,8 +178,36 @@ fn speed_refuses_programs_that_differ() {
 }
 
 #[test]
+fn wear_counts_the_stores_of_each_slot() {
+    let wear = |program: &Path, argument: &str| {
+        let output = Command::new(WEAR)
+            .args(["--entries", "2002", "--"])
+            .arg(program)
+            .args((!argument.is_empty()).then_some(argument))
+            .output()
+            .unwrap();
+        (output.status.code(), text(&output))
+    };
+    let (code, sound) = wear(Path::new(REFBENCH), "");
+    assert_eq!(code, Some(0), "{sound}");
+    for line in ["0 501 501", "1 501 501", "2 500 501", "3 500 501"] {
+        let words: Vec<&str> = line.split(' ').collect();
+        let counts = |shown: &str| shown.split_whitespace().eq(words.iter().copied());
+        assert!(sound.lines().any(counts), "{sound}");
+    }
+    assert!(sound.ends_with("differing answers 0\n"), "{sound}");
+    let (code, moved) = wear(&faulty(), "moves");
+    assert_eq!(code, Some(1), "{moved}");
+    assert!(moved.contains("  due     16\n  program 32\n"), "{moved}");
+    let (code, crashed) = wear(&faulty(), "crash");
+    assert_eq!(code, Some(1), "{crashed}");
+    assert!(crashed.contains("program (no answer)\n"), "{crashed}");
+    assert_eq!(wear(Path::new("/nonexistent/bench"), "").0, Some(2));
+}
+
+#[test]
 fn help() {
-    for program in [CHECK, COMPARE, READER, REFBENCH, SPEED] {
+    for program in [CHECK, COMPARE, READER, REFBENCH, SPEED, WEAR] {
         let output = Command::new(program).arg("--help").output().unwrap();
         assert!(output.status.success());
         assert!(text(&output).contains("Usage:"));

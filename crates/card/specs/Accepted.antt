@@ -39,7 +39,7 @@ use Rattle.rows.specs.Rows.{outside, longRead, ok}
 use Rattle.commands.specs.PlacesLaws.{entries-view}
 use Rattle.rows.specs.Laws.{read-inside, entries-inside, credit-inside, debit-inside, rebook-inside}
 use Rattle.standing.specs.Parts.{logBroken}
-use Rattle.effects.specs.Effects.{purseAfter, journalAfter, filesAfter}
+use Rattle.effects.specs.Effects.{purseAfter, journalAfter, storedAfter, filesAfter}
 use Rattle.effects.specs.Guarded.{purseIn}
 use Rattle.replies.specs.Replies.{shownOf}
 use Rattle.replies.specs.Guarded.{valueIn, shownIn}
@@ -102,7 +102,7 @@ module _ (room : ℕ) (s : State) (l : Log) (d : List ℕ) (j : s .core .journal
   entries-shown e =
       let o : outsideOf (l .count) (offsetOf d) (lengthOf d) ≡ false = rw (j, entries-view l) at e in
       let r = le-ltb room 64 (omega arith) in
-      let f = or-no (ltb 4 (l .count)) _ b .0 in
+      let f = or-no (ltb 4 (l .count)) _ (or-no _ _ b .0) .0 in
       rw j (passed _ _ (rw (r, f, o)))
 
   settings-shown : describedIn room (s .core .settings) (s .core .purse .allowance) (l .count) (fileOf d)
@@ -154,29 +154,29 @@ module _ (i : ℕ) (n₁ : eqb i authenticateFirst ≡ false) (n₂ : eqb i auth
   unfolding channelAfter
   base-channel ks u d c = passed _ _ n₁ ∙ passed _ _ n₂
 
-  pub base-accepted : (m : Bool) (s : State) (u : Inputs) (d : List ℕ)
-      → record { state = changed s u i d; out = baseShown s i d ++ (macBehind m (counted (s .core .channel)) (baseShown s i d) ++ word ok) } ≡ acceptedPlain m s u i d
+  pub base-accepted : (m : Bool) (s : State) (u : Inputs) (d : List ℕ) {n : ℕ} → n ≡ storedAfter i (s .core .journal)
+      → record { state = changed s u i d; stored = n; out = baseShown s i d ++ (macBehind m (counted (s .core .channel)) (baseShown s i d) ++ word ok) } ≡ acceptedPlain m s u i d
   unfolding acceptedPlain shown acceptedStatus
-  base-accepted m s u d =
+  base-accepted m s u d e =
       let x : shown s u i d ≡ baseShown s i d = passed _ _ n₁ ∙ passed _ _ n₂ in
       let t : acceptedStatus i ≡ ok = passed _ _ n₁ in
       let k : changed s u i d .core .channel ≡ counted (s .core .channel) = unfold changed in base-channel (s .core .keys) u d (s .core .channel) in
-      rw (x, t, k) refl
+      rw (x, t, k, e) refl
 
 -- ---- what a command that shows changes but for the counter, and what another shows: nothing
 
 module _ (s : State) (d : List ℕ) where
   abbrev Still : ℕ → Type 0
   Still i = (purseAfter i d (s .core .purse) ≡ s .core .purse) × (journalAfter i d (s .core .journal) ≡ s .core .journal) × (filesAfter i d (s .files) ≡ s .files)
-      × (eqb i authenticateFirst ≡ false) × (eqb i authenticateSecond ≡ false)
+      × (eqb i authenticateFirst ≡ false) × (eqb i authenticateSecond ≡ false) × (0 ≡ storedAfter i (s .core .journal))
 
   by-one : (i k : ℕ) → Still k → eqb i k ≡ true → Still i
   by-one i k e t = subst Still (sym (eqb-true i k t)) e
 
   pub shows-changes-nothing : (i : ℕ) → shows i ≡ true → Still i
-  unfolding purseAfter journalAfter filesAfter pick
+  unfolding purseAfter journalAfter storedAfter filesAfter pick
   shows-changes-nothing i e =
-      by (eqb i readData) (eqb i getValue) (eqb i readRecords) (eqb i getFileSettings) (by-one i readData (refl, refl, refl, refl, refl)) (by-one i getValue (refl, refl, refl, refl, refl)) (by-one i readRecords (refl, refl, refl, refl, refl)) (by-one i getFileSettings (refl, refl, refl, refl, refl)) e
+      by (eqb i readData) (eqb i getValue) (eqb i readRecords) (eqb i getFileSettings) (by-one i readData (refl, refl, refl, refl, refl, refl)) (by-one i getValue (refl, refl, refl, refl, refl, refl)) (by-one i readRecords (refl, refl, refl, refl, refl, refl)) (by-one i getFileSettings (refl, refl, refl, refl, refl, refl)) e
     where
       by : (a b c d : Bool) {P : Type 0} → (a ≡ true → P) → (b ≡ true → P) → (c ≡ true → P) → (d ≡ true → P) → (a || b || c || d) ≡ true → P
       by true b c d p q r s e = p refl

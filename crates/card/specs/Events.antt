@@ -29,7 +29,7 @@ use Rattle.rows.specs.State.{State}
 use Rattle.modes.specs.Modes.{plainOf}
 use Rattle.rows.specs.Rows.{ok, macedIn, statusOf, openingStatus, bytesStatus}
 use Rattle.standing.specs.Rules.{orderRefusal}
-use Rattle.effects.specs.Effects.{purseAfter, journalAfter, filesAfter}
+use Rattle.effects.specs.Effects.{purseAfter, journalAfter, storedAfter, filesAfter}
 use Rattle.replies.specs.Replies.{shownOf}
 use Rattle.card.specs.declared.Card.{Card}
 use Rattle.card.specs.View.{view, put, broken}
@@ -84,20 +84,22 @@ ended s =
       files = s .files;
     }
 
--- a state, and the bytes of a reply
+-- a state, the slot bytes stored on the way to it, and the bytes of a reply
 pub record Played : Type 0 where
   pub state : State
+  pub stored : ℕ
   pub out : List ℕ
 
 -- a refusal's reply is the two status bytes
 unfoldable pub refused : State → ℕ → Played
-refused s status = record { state = ended s; out = word status }
+refused s status = record { state = ended s; stored = 0; out = word status }
 
 -- an accepted reply is its data, its MAC if the command had one, and its status
 unfoldable pub acceptedPlain : Bool → State → Inputs → ℕ → List ℕ → Played
 acceptedPlain m s u i d =
     record {
       state = changed s u i d;
+      stored = storedAfter i (s .core .journal);
       out = shown s u i d ++ (macBehind m (changed s u i d .core .channel) (shown s u i d) ++ word (acceptedStatus i));
     }
 
@@ -119,7 +121,7 @@ played s u f = playedBy (statusOf (s .core) f) s u f
 
 -- the card that the played state is laid into
 unfoldable pub laidInto : Card → Played → Outcome
-laidInto c p = record { card = put c (p .state); refusal = 0; out = p .out }
+laidInto c p = record { card = put c (p .stored) (p .state); refusal = 0; stored = p .stored; out = p .out }
 
 -- the room that every reply has in its buffer
 abbrev pub replyRoom : ℕ
@@ -155,7 +157,7 @@ withChannel s c =
 
 -- an accepted opening with the data field d replies nothing, and changes nothing but that a chain is open
 unfoldable pub opening : State → List ℕ → Played
-opening s d = record { state = withChannel s (chained (s .core .channel) (announced d)); out = [] }
+opening s d = record { state = withChannel s (chained (s .core .channel) (announced d)); stored = 0; out = [] }
 
 -- the frame f as an opening
 unfoldable pub openingPlayed : State → List ℕ → Played
@@ -174,6 +176,7 @@ delivered s b =
         core = withChannel s (advanced (s .core .channel) (length b)) .core;
         files = files.written (s .files) (k .file) (nextPlace k) b;
       };
+      stored = 0;
       out = pick (completes k (length b)) (word ok) [];
     }
 
@@ -193,12 +196,12 @@ unfoldable pub sessionChanged : Card → Session → Outcome
 sessionChanged c k =
     pick (not (sessionSound k)) (bench c 4)
     (pick (broken c) (bench c 6)
-    (laidInto c (record { state = withSession (view c) k; out = [] })))
+    (laidInto c (record { state = withSession (view c) k; stored = 0; out = [] })))
 
 -- ---- a power-up
 
 unfoldable pub poweredUp : Card → Outcome
-poweredUp c = pick (broken c) (bench c 6) (laidInto c (record { state = ended (view c); out = [] }))
+poweredUp c = pick (broken c) (bench c 6) (laidInto c (record { state = ended (view c); stored = 0; out = [] }))
 
 -- ---- personalisation
 

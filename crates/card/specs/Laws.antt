@@ -35,7 +35,7 @@ use Rattle.rows.specs.State.{State}
 use Rattle.modes.specs.Modes.{plainOf}
 use Rattle.rows.specs.Rows.{wrongLength, outside, ok, macedIn, statusOf, commandStatus, openingStatus, bytesStatus}
 use Rattle.rows.specs.Laws.{command-ok, inside, long-enough, first-plain, second-plain, second-length}
-use Rattle.effects.specs.Effects.{purseAfter, journalAfter, filesAfter}
+use Rattle.effects.specs.Effects.{purseAfter, journalAfter, storedAfter, filesAfter}
 use Rattle.effects.specs.Guarded.{purseIn}
 use Rattle.replies.specs.Guarded.{shownIn}
 use Rattle.card.specs.declared.Card.{Card}
@@ -49,7 +49,7 @@ use Rattle.card.specs.Accepted.{Granted, baseShown, purse-inside, shown-
 use Rattle.card.specs.Sealing.{Sealed, sealed-shows}
 
 -- a card is the state that it stands for, laid into it
-pub put-view : (c : Card) → put c (view c) ≡ c
+pub put-view : (c : Card) → put c 0 (view c) ≡ c
 unfolding put view
 put-view c = ap (λ (l : Log). record { settings = c .settings; keys = c .keys; files = c .files; purse = c .purse; log = l; channel = c .channel }) (logbook.put-view (c .log))
 
@@ -59,8 +59,12 @@ log-unbroken c e = parted (c .settings) (c .purse) (c .log) (c .channel .stage) 
 
 -- ---- replies
 
+abbrev pub replyStoring : ℕ → Card → ℕ → ℕ → Reply
+replyStoring stored c n len = record { card = c; refusal = n; stored = stored; len = len }
+
+-- most store nothing
 abbrev pub reply : Card → ℕ → ℕ → Reply
-reply c n len = record { card = c; refusal = n; len = len }
+reply = replyStoring 0
 
 pub bench-reply : (c : Card) (n : ℕ) → reply c n 0 ≡ replyOf (bench c n)
 unfolding bench replyOf
@@ -73,11 +77,11 @@ bench-answers c n b = (refl, laid-none b)
 pub answered-as : (o o′ : Outcome) (b b₂ : List ℕ) (r : Reply) → o ≡ o′ → Answered o b b₂ r → Answered o′ b b₂ r
 answered-as o o′ b b₂ r e a = (cc, cc)
 
--- the card k with the state s, and a buffer that shows x
-pub shows-answers : (c : Card) {k : Card} (s : State) (x b : List ℕ) {b₂ : List ℕ} {n : ℕ} → k ≡ put c s → Shows x b b₂ n
-    → Answered (laidInto c (record { state = s; out = x })) b b₂ (reply k 0 n)
+-- the card k with the state s, with t slot bytes stored, and a buffer that shows x
+pub shows-answers : (c : Card) {k : Card} {t : ℕ} (s : State) (x b : List ℕ) {b₂ : List ℕ} {n : ℕ} → k ≡ put c t s → Shows x b b₂ n
+    → Answered (laidInto c (record { state = s; stored = t; out = x })) b b₂ (replyStoring t k 0 n)
 unfolding laidInto replyOf
-shows-answers c s x b ek (e, l) = ((λ i. reply (ek i) 0 (l i)), e)
+shows-answers c {t = t} s x b ek (e, l) = ((λ i. replyStoring t (ek i) 0 (l i)), e)
 
 -- what an accepted command lays at the front is its data, with room for the MAC and the status
 pub accepted-shows : (c : Card) (m : Bool) (i : ℕ) (d b b₁ : List ℕ) (n : ℕ) → Granted (view c .core) m i d → broken c ≡ false → replyRoom ≤ length b
@@ -95,48 +99,52 @@ accepted-shows c m i d b b₁ n g r room ls le s =
 
 -- another channel alone
 pub on-channel : (c : Card) (s : State) (k : Channel) → s ≡ record { core = record { settings = c .settings; keys = c .keys; purse = c .purse; journal = log.view (c .log); channel = k }; files = c .files }
-    → onChannel c k ≡ put c s
+    → onChannel c k ≡ put c 0 s
 unfolding onChannel put
 on-channel c s k e = rw (e, logbook.put-view (c .log)) refl
 
-pub on-counted : (c : Card) (u : Inputs) (i : ℕ) (d : List ℕ) → shows i ≡ true → onChannel c (counted (c .channel)) ≡ put c (changed (view c) u i d)
+pub on-counted : (c : Card) (u : Inputs) (i : ℕ) (d : List ℕ) → shows i ≡ true → onChannel c (counted (c .channel)) ≡ put c 0 (changed (view c) u i d)
 on-counted c u i d t =
     let h = shows-changes-nothing (view c) d i t in
     on-channel c _ _ (unfold changed view in rw (h .0, h .1, h .2, base-channel i (h .3) (h .4) (c .keys) u d (c .channel)) refl)
 
-pub on-begun : (c : Card) (u : Inputs) (d : List ℕ) → onChannel c (begun u d) ≡ put c (changed (view c) u authenticateFirst d)
+pub on-begun : (c : Card) (u : Inputs) (d : List ℕ) → onChannel c (begun u d) ≡ put c 0 (changed (view c) u authenticateFirst d)
 on-begun c u d = on-channel c _ _ (unfold changed view purseAfter journalAfter filesAfter channelAfter pick in refl)
 
-pub on-opened : (c : Card) (u : Inputs) (d : List ℕ) → length d ≡ 32 → onChannel c (openedIn (c .keys) (c .channel) d) ≡ put c (changed (view c) u authenticateSecond d)
+pub on-opened : (c : Card) (u : Inputs) (d : List ℕ) → length d ≡ 32 → onChannel c (openedIn (c .keys) (c .channel) d) ≡ put c 0 (changed (view c) u authenticateSecond d)
 on-opened c u d e = on-channel c _ _ (unfold changed view purseAfter journalAfter filesAfter channelAfter pick in rw (opens-whole (c .keys) (c .channel) d e) refl)
 
 -- a command on the value file or the log
-pub moved : (c : Card) (u : Inputs) (i : ℕ) (d : List ℕ) (p : Purse) (l : Log) {k : Channel} → outside (view c .core .settings .limits) (view c .core .purse) (length (view c .core .journal .entries)) i d ≡ false
+pub moved : (c : Card) (u : Inputs) (i : ℕ) (d : List ℕ) (p : Purse) (l : Log) {k : Channel} {n : ℕ} → outside (view c .core .settings .limits) (view c .core .purse) (length (view c .core .journal .entries)) i d ≡ false
     → eqb i authenticateFirst ≡ false → eqb i authenticateSecond ≡ false → eqb i writeData ≡ false
-    → p ≡ purseIn (c .settings .limits) i d (c .purse) → l ≡ log.put (c .log) (journalAfter i d (log.view (c .log)))
-    → k ≡ counted (c .channel) → record { settings = c .settings; keys = c .keys; files = c .files; purse = p; log = l; channel = k } ≡ put c (changed (view c) u i d)
+    → p ≡ purseIn (c .settings .limits) i d (c .purse) → l ≡ log.put (c .log) (storedAfter i (log.view (c .log))) (journalAfter i d (log.view (c .log))) → n ≡ storedAfter i (log.view (c .log))
+    → k ≡ counted (c .channel) → record { settings = c .settings; keys = c .keys; files = c .files; purse = p; log = l; channel = k } ≡ put c n (changed (view c) u i d)
 unfolding put view changed
-moved c u i d p l o n₁ n₂ w ep el ek =
+moved c u i d p l o n₁ n₂ w ep el en ek =
     let q = ep ∙ purse-inside (c .settings .limits) (c .purse) _ d i o in
     let f : filesAfter i d (c .files) ≡ c .files = unfold filesAfter in passed _ _ w in
-    rw (q, el, f, ek, base-channel i n₁ n₂ (c .keys) u d (c .channel)) refl
+    rw (q, el, f, en, ek, base-channel i n₁ n₂ (c .keys) u d (c .channel)) refl
 
 -- WriteData
 pub wrote : (c : Card) (u : Inputs) (i : ℕ) (d : List ℕ) (f : Files) {k : Channel} → i ≡ writeData → f ≡ filesAfter writeData d (c .files)
-    → k ≡ counted (c .channel) → record { settings = c .settings; keys = c .keys; files = f; purse = c .purse; log = c .log; channel = k } ≡ put c (changed (view c) u i d)
+    → k ≡ counted (c .channel) → record { settings = c .settings; keys = c .keys; files = f; purse = c .purse; log = c .log; channel = k } ≡ put c 0 (changed (view c) u i d)
 unfolding put view changed purseAfter journalAfter channelAfter pick
 wrote c u i d f ei e ek = rw (ei, e, ek, logbook.put-view (c .log)) refl
 
+pub write-stores-none : (c : Card) {i : ℕ} → i ≡ writeData → 0 ≡ storedAfter i (view c .core .journal)
+unfolding storedAfter pick
+write-stores-none c e = rw e refl
+
 -- a part of an authentication: the n bytes x of its reply, and its status w behind them
-pub part-answers : (c : Card) {k : Card} (u : Inputs) (i : ℕ) (d x b : List ℕ) {b₁ b₂ : List ℕ} {r : ℕ} (n w : ℕ) → k ≡ put c (changed (view c) u i d)
+pub part-answers : (c : Card) {k : Card} (u : Inputs) (i : ℕ) (d x b : List ℕ) {b₁ b₂ : List ℕ} {r : ℕ} (n w : ℕ) → k ≡ put c 0 (changed (view c) u i d) → 0 ≡ storedAfter i (view c .core .journal)
     → x ≡ shown (view c) u i d → w ≡ acceptedStatus i → length x ≡ n → n + 2 ≤ length b → b₁ ≡ laidIn b 0 x → b₂ ≡ laidIn b₁ n (word w) → r ≡ n + 2
     → Answered (laidInto c (acceptedPlain false (view c) u i d)) b b₂ (reply k 0 r)
-part-answers c u i d x b {b₁} {r = r} n w ek ex ew lx room e₁ e₂ er =
+part-answers c u i d x b {b₁} {r = r} n w ek et ex ew lx room e₁ e₂ er =
     let s = shows-whole x b b₁ n lx (omega arith) e₁ in
     let lw = length-word w in
     let lb = shows-length x b b₁ n s (omega arith) in
     let v = shows-then x (word w) b s (e₂ ∙ laid-room b₁ n (word w) (omega arith)) in
-    let y : record { state = changed (view c) u i d; out = x ++ word w } ≡ acceptedPlain false (view c) u i d = unfold acceptedPlain macBehind pick in rw (ex, ew) refl in
+    let y : record { state = changed (view c) u i d; stored = 0; out = x ++ word w } ≡ acceptedPlain false (view c) u i d = unfold acceptedPlain macBehind pick in rw (ex, ew, ← et) refl in
     let l : r ≡ length (x ++ word w) = er ∙ ap (λ (j : ℕ). n + j) (sym (length-word w)) ∙ v .1 in
     answered-as _ _ _ _ _ (ap (laidInto c) y) (shows-answers c (changed (view c) u i d) (x ++ word w) b ek (v .0, l))
 
@@ -148,7 +156,7 @@ unfolding view
 shown-answers c m u i d b t ek s z =
     let h = shows-changes-nothing (view c) d i t in
     let v = sealed-shows (counted (c .channel)) m (baseShown (view c) i d) b s z in
-    answered-as _ _ _ _ _ (ap (laidInto c) (base-accepted i (h .3) (h .4) m (view c) u d)) (shows-answers c (changed (view c) u i d) _ b (ek ∙ on-counted c u i d t) v)
+    answered-as _ _ _ _ _ (ap (laidInto c) (base-accepted i (h .3) (h .4) m (view c) u d (h .5))) (shows-answers c (changed (view c) u i d) _ b (ek ∙ on-counted c u i d t) v)
 
 -- ---- an event with a reply buffer, which plays p where there is no bench refusal
 
@@ -182,7 +190,7 @@ module _ (c : Card) (s : ℕ) (p : Played) where
   judged-accepted e = ap (laidInto c) (sym (picked _ _ (eq-eqb _ _ e)))
 
 -- a refusal, laid into the card k, with room for a reply
-pub refused-answers : (c : Card) {k : Card} (s : ℕ) (b : List ℕ) {b₂ : List ℕ} {n : ℕ} → replyRoom ≤ length b → k ≡ put c (ended (view c))
+pub refused-answers : (c : Card) {k : Card} (s : ℕ) (b : List ℕ) {b₂ : List ℕ} {n : ℕ} → replyRoom ≤ length b → k ≡ put c 0 (ended (view c))
     → b₂ ≡ laidIn b 0 (word s) → n ≡ 0 + 2 → Answered (laidInto c (refused (view c) s)) b b₂ (reply k 0 n)
 unfolding refused
 refused-answers c s b h ek e q = shows-answers c (ended (view c)) (word s) b ek (shows-whole (word s) b _ 2 (length-word s) (omega arith) e .0, q ∙ sym (length-word s))
@@ -208,7 +216,7 @@ module _ (c : Card) (f : List ℕ) (u : Inputs) where
 
   -- with room for a reply, on a card that breaks no rule; k is the card after
   module _ (b : List ℕ) (h : replyRoom ≤ length b) (w : broken c ≡ false) where
-    pub command-refused : {b₂ : List ℕ} {k : Card} {n : ℕ} (s : ℕ) → s ≡ statusOf (view c .core) f → (s ≡ ok → ⊥) → k ≡ put c (ended (view c))
+    pub command-refused : {b₂ : List ℕ} {k : Card} {n : ℕ} (s : ℕ) → s ≡ statusOf (view c .core) f → (s ≡ ok → ⊥) → k ≡ put c 0 (ended (view c))
         → b₂ ≡ laidIn b 0 (word s) → n ≡ 0 + 2 → Answered (commanded c f u (length b)) b b₂ (reply k 0 n)
     command-refused s es n ek e q = answered-as _ _ _ _ _ (plays-refused s es n ∙ command-plays _ h w) (refused-answers c s b h ek e q)
 
@@ -241,14 +249,15 @@ module _ (c : Card) (f : List ℕ) (u : Inputs) where
       pub command-part : {b₂ : List ℕ} {r : Reply} {j : ℕ} → i ≡ j → m ≡ false → Answered (laidInto c (acceptedPlain false (view c) u j d)) b b₂ r → Answered (commanded c f u (length b)) b b₂ r
       command-part ej e y = command-accepts (rw (e, ej) y)
 
-      -- a base command that shows nothing; g is its channel after
-      pub command-quiet : {b₂ : List ℕ} {k : Card} {n : ℕ} {g : Channel} → eqb i authenticateFirst ≡ false → eqb i authenticateSecond ≡ false → shows i ≡ false
-          → k ≡ put c (changed (view c) u i d) → g ≡ counted (c .channel) → Sealed g m 0 b b₂ n → Answered (commanded c f u (length b)) b b₂ (reply k 0 n)
+      -- a base command that shows nothing; g is its channel after, and t the slot bytes that it stored
+      pub command-quiet : {b₂ : List ℕ} {k : Card} {n t : ℕ} {g : Channel} → eqb i authenticateFirst ≡ false → eqb i authenticateSecond ≡ false → shows i ≡ false
+          → t ≡ storedAfter i (view c .core .journal) → k ≡ put c t (changed (view c) u i d) → g ≡ counted (c .channel) → Sealed g m 0 b b₂ n
+          → Answered (commanded c f u (length b)) b b₂ (replyStoring t k 0 n)
       unfolding view
-      command-quiet n₁ n₂ t ek eg z₀ =
+      command-quiet n₁ n₂ s et ek eg z₀ =
           let z : Sealed (counted (c .channel)) m 0 b _ _ = rw eg at z₀ in
-          let y = quiet-shows-nothing (view c) d i t in
-          let q = base-accepted i n₁ n₂ m (view c) u d in
+          let y = quiet-shows-nothing (view c) d i s in
+          let q = base-accepted i n₁ n₂ m (view c) u d et in
           let v = sealed-shows (counted (c .channel)) m [] b (shows-none b) z in
           command-accepts (answered-as _ _ _ _ _ (ap (laidInto c) q) (shows-answers c _ _ b ek (rw y v)))
 
@@ -323,18 +332,18 @@ module _ (c : Card) (k : Session) where
   unfolding sessionChanged
   session-changes e b q = ap (λ (x : Card). reply x 0 0) (q ∙ on-channel c (withSession (view c) k) (bare (stageOf k)) (unfold withSession view in refl)) ∙ silent ∙ ap replyOf (sym (passed _ _ e ∙ passed _ _ b))
     where
-      silent : reply (put c (withSession (view c) k)) 0 0 ≡ replyOf (laidInto c (record { state = withSession (view c) k; out = [] }))
+      silent : reply (put c 0 (withSession (view c) k)) 0 0 ≡ replyOf (laidInto c (record { state = withSession (view c) k; stored = 0; out = [] }))
       silent = unfold replyOf laidInto in refl
 
 pub power-broken : (c : Card) → broken c ≡ true → reply c 6 0 ≡ replyOf (poweredUp c)
 unfolding poweredUp
 power-broken c b = bench-reply c 6 ∙ ap replyOf (sym (picked _ _ b))
 
-pub power-ends : (c k : Card) → k ≡ put c (ended (view c)) → broken c ≡ false → reply k 0 0 ≡ replyOf (poweredUp c)
+pub power-ends : (c k : Card) → k ≡ put c 0 (ended (view c)) → broken c ≡ false → reply k 0 0 ≡ replyOf (poweredUp c)
 unfolding poweredUp
 power-ends c k e b = made ∙ ap replyOf (sym (passed _ _ b))
   where
-    made : reply k 0 0 ≡ replyOf (laidInto c (record { state = ended (view c); out = [] }))
+    made : reply k 0 0 ≡ replyOf (laidInto c (record { state = ended (view c); stored = 0; out = [] }))
     made = unfold replyOf laidInto in ap (λ (x : Card). reply x 0 0) e
 
 module _ (s : Settings) (ks : Keys) (v : ℤ) (n : ℕ) (c : Card) (e : n ≡ orderRefusal s v) where

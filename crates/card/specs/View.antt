@@ -1,4 +1,5 @@
 -- The card as the program holds it, and the state that it stands for. They differ in the log alone.
+use Prim.Native.Nat.{ℕ}
 use mathlib.Core.Bool.{Bool}
 use Rattle.rows.specs.State.{State, coreOf}
 use Rattle.logbook.specs.View as log
@@ -9,15 +10,15 @@ use Rattle.card.specs.declared.Card.{Card}
 unfoldable pub view : Card → State
 view c = record { core = coreOf (c .settings) (c .keys) (c .purse) (c .log) (c .channel); files = c .files }
 
--- the state s laid into the card c: bytes of its log that the rules do not speak of stay
-unfoldable pub put : Card → State → Card
-put c s =
+-- the state s laid into the card c, with n slot bytes stored: bytes of its log that the rules do not speak of stay
+unfoldable pub put : Card → ℕ → State → Card
+put c n s =
     record {
       settings = s .core .settings;
       keys = s .core .keys;
       files = s .files;
       purse = s .core .purse;
-      log = log.put (c .log) (s .core .journal);
+      log = log.put (c .log) n (s .core .journal);
       channel = s .core .channel;
     }
 

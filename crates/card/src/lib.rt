@@ -37,10 +37,12 @@ pub struct Card {
     pub channel: Channel,
 }
 
-// What an event answers: the card, the bench refusal's number or 0, and the length of the reply.
+// What an event answers: the card, the bench refusal's number or 0, the slot bytes of the log that it stored, and the length of
+// the reply.
 pub struct Reply {
     pub card: Card,
     pub refusal: u8,
+    pub stored: u8,
     pub len: usize,
 }
 
@@ -105,7 +107,7 @@ impl Card {
 
     // The card with its session ended, and pending work and an open chain dropped.
     fn ended(self) -> Card
-        ensures { λ r. ⌜ r ≡ put self (ended (view self)) ⌝ }
+        ensures { λ r. ⌜ r ≡ put self 0 (ended (view self)) ⌝ }
     {
         let settings = self.settings;
         let keys = self.keys;
@@ -197,6 +199,7 @@ impl Card {
         Reply {
             card,
             refusal: 0,
+            stored: 0,
             len,
         }
     }
@@ -215,6 +218,7 @@ impl Card {
         Reply {
             card,
             refusal: 0,
+            stored: 0,
             len,
         }
     }
@@ -236,6 +240,7 @@ impl Card {
         Reply {
             card,
             refusal: 0,
+            stored: 0,
             len,
         }
     }
@@ -257,6 +262,7 @@ impl Card {
             return Reply {
                 card: self,
                 refusal: bench,
+                stored: 0,
                 len: 0,
             };
         }
@@ -268,6 +274,7 @@ impl Card {
             return Reply {
                 card,
                 refusal: 0,
+                stored: 0,
                 len,
             };
         }
@@ -304,20 +311,24 @@ impl Card {
             return Reply {
                 card,
                 refusal: 0,
+                stored: 0,
                 len,
             };
         }
+        let after = effects::next_log(log, ins, d);
+        let log = after.log;
         let card = Card {
             settings,
             keys,
             files,
             purse: effects::next_purse(purse, settings.limits, ins, d),
-            log: effects::next_log(log, ins, d),
+            log,
             channel: next,
         };
         Reply {
             card,
             refusal: 0,
+            stored: after.stored,
             len,
         }
     }
@@ -332,6 +343,7 @@ impl Card {
         Reply {
             card,
             refusal: 0,
+            stored: 0,
             len,
         }
     }
@@ -352,6 +364,7 @@ impl Card {
             return Reply {
                 card: self,
                 refusal: bench,
+                stored: 0,
                 len: 0,
             };
         }
@@ -365,6 +378,7 @@ impl Card {
         Reply {
             card,
             refusal: 0,
+            stored: 0,
             len: 0,
         }
     }
@@ -406,6 +420,7 @@ impl Card {
         Reply {
             card,
             refusal: 0,
+            stored: 0,
             len,
         }
     }
@@ -425,6 +440,7 @@ impl Card {
             return Reply {
                 card: self,
                 refusal: bench,
+                stored: 0,
                 len: 0,
             };
         }
@@ -443,6 +459,7 @@ impl Card {
             return Reply {
                 card: self,
                 refusal: 4,
+                stored: 0,
                 len: 0,
             };
         }
@@ -456,6 +473,7 @@ impl Card {
             return Reply {
                 card: self,
                 refusal: 6,
+                stored: 0,
                 len: 0,
             };
         }
@@ -463,6 +481,7 @@ impl Card {
         Reply {
             card,
             refusal: 0,
+            stored: 0,
             len: 0,
         }
     }
@@ -481,6 +500,7 @@ impl Card {
             return Reply {
                 card: self,
                 refusal: 6,
+                stored: 0,
                 len: 0,
             };
         }
@@ -488,6 +508,7 @@ impl Card {
         Reply {
             card,
             refusal: 0,
+            stored: 0,
             len: 0,
         }
     }
@@ -501,12 +522,14 @@ impl Card {
             return Reply {
                 card: issue::blank(),
                 refusal,
+                stored: 0,
                 len: 0,
             };
         }
         Reply {
             card: issue::issued(settings, keys, value),
             refusal: 0,
+            stored: 0,
             len: 0,
         }
     }

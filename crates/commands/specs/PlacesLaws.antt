@@ -7,8 +7,9 @@ use lib.ListN.{length}
 use Rattle.tables.specs.Choice.{pick}
 use Rattle.purse.specs.declared.Purse.{Purse}
 use Rattle.logbook.specs.declared.Log.{Log}
+use Rattle.logbook.specs.Journal as journal
 use Rattle.logbook.specs.View as log
-use Rattle.logbook.specs.Entries.{length-cut}
+use Rattle.logbook.specs.Entries.{length-ringed}
 use Rattle.access.specs.declared.Access.{Access}
 use Rattle.access.specs.declared.Session.{Session}
 use Rattle.keys.specs.declared.Keys.{Keys}
@@ -24,14 +25,14 @@ use Rattle.commands.specs.Places.{placesUnder, placesOf}
 
 pub entries-view : (l : Log) → length (log.view l .entries) ≡ l .count
 unfolding log.view
-entries-view l = length-cut (l .count) (l .slots)
+entries-view l = length-ringed (l .count) (l .place) (l .slots)
 
 -- what is pending on the log by its two flags
 pub pending-view : (l : Log) → logPending (log.view l) ≡ (l .adds || l .clears)
-unfolding logPending log.view log.some pick
+unfolding logPending log.view journal.some pick
 pending-view l = by (l .adds)
   where
-    by : (b : Bool) → (log.some (pick b (l .entry ∷ []) []) || l .clears) ≡ (b || l .clears)
+    by : (b : Bool) → (journal.some (pick b (l .entry ∷ []) []) || l .clears) ≡ (b || l .clears)
     by true = refl
     by false = refl
 

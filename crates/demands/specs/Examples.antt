@@ -11,6 +11,7 @@ use Rattle.datafiles.specs.Files as files
 use Rattle.limits.specs.Limits.{crossed, within}
 use Rattle.purse.specs.Purse as purse
 use Rattle.logbook.specs.Journal as journal
+use Rattle.logbook.specs.Ring as ring
 use Rattle.logbook.specs.View as log
 use Rattle.access.specs.Rights as access
 use Rattle.access.specs.declared.Session.the-variants.{Nobody}
@@ -40,7 +41,7 @@ program = settings.alike 0xEEEE (record { lower = pos 0; upper = pos 1000 }) tru
 
 -- the replies along a history of the program's card; to unfold this is to unfold all that a computed reply needs
 unfoldable pub replies : List Event → List Said
-unfolding pick laid laidIn outsideOf le3 le4 word files.sizeOf files.bytesOf files.zeros files.endOf files.shown files.written crossed within purse.resting purse.credited purse.debited purse.rebooked purse.settled purse.dropped rules.unequal journal.blank journal.joined journal.shown journal.freshOr journal.written journal.cleared journal.pushed journal.resting journal.settled journal.dropped log.cut log.view log.some log.put log.empty access.rightsSound access.sealed access.granting access.accessOf frame.wrongSize frame.wrongClass frame.wrongParameters frame.wrongFrame table.onFile table.namesFile table.isFile table.suits settings.rightsOf settings.accessTo settings.rightsBroken state.logPending rows.unknownCommand rows.interrupts rows.sentOf rows.lengthCases rows.lacksMac rows.unknownFile rows.otherKindOrNever rows.notGranted rows.partFails rows.forged rows.usedUp rows.switchedOff rows.parameterCases rows.ranged rows.roomOf rows.amountCases rows.outside rows.longRead rows.nothingPending rows.rowsFor rows.statusFor rows.bytesStatus effects.purseAfter effects.journalAfter effects.filesAfter shownOf card.view card.put rules.brokenBy outcomes.replyOf outcomes.bench events.channelAfter events.changed events.shown events.macBehind events.acceptedStatus events.acceptedPlain events.ended events.refused events.accepted events.played events.laidInto events.benchRefusal events.commanded events.opening events.openingPlayed events.chainOpened events.delivered events.bytesPlayed events.bytesSent events.withSession events.sessionChanged events.poweredUp events.issued outcome said along run settings.alike keys.zeros channel.counted channel.bare channel.chained channel.advanced chain.unchained chain.announced chain.shortened chain.wrongBytes chain.chainSound modes.macedUnder modes.plainOf program
+unfolding pick laid laidIn outsideOf le3 le4 word files.sizeOf files.bytesOf files.zeros files.endOf files.shown files.written crossed within purse.resting purse.credited purse.debited purse.rebooked purse.settled purse.dropped rules.unequal journal.blank journal.joined journal.shown journal.freshOr journal.written journal.cleared journal.pushed journal.resting journal.settled journal.stored journal.dropped ring.ringed ring.laidRound log.view journal.some log.put log.empty access.rightsSound access.sealed access.granting access.accessOf frame.wrongSize frame.wrongClass frame.wrongParameters frame.wrongFrame table.onFile table.namesFile table.isFile table.suits settings.rightsOf settings.accessTo settings.rightsBroken state.logPending rows.unknownCommand rows.interrupts rows.sentOf rows.lengthCases rows.lacksMac rows.unknownFile rows.otherKindOrNever rows.notGranted rows.partFails rows.forged rows.usedUp rows.switchedOff rows.parameterCases rows.ranged rows.roomOf rows.amountCases rows.outside rows.longRead rows.nothingPending rows.rowsFor rows.statusFor rows.bytesStatus effects.purseAfter effects.journalAfter effects.storedAfter effects.filesAfter shownOf card.view card.put rules.brokenBy outcomes.replyOf outcomes.bench events.channelAfter events.changed events.shown events.macBehind events.acceptedStatus events.acceptedPlain events.ended events.refused events.accepted events.played events.laidInto events.benchRefusal events.commanded events.opening events.openingPlayed events.chainOpened events.delivered events.bytesPlayed events.bytesSent events.withSession events.sessionChanged events.poweredUp events.issued outcome said along run settings.alike keys.zeros channel.counted channel.bare channel.chained channel.advanced chain.unchained chain.announced chain.shortened chain.wrongBytes chain.chainSound modes.macedUnder modes.plainOf program
 replies es = along next said (events.issued program keys.zeros (pos 100)) es
 
 -- the books over such a history

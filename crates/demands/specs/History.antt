@@ -19,7 +19,7 @@ use Rattle.rows.specs.Rows.{ok, macedIn, statusOf, openingStatus, bytesStatus}
 use Rattle.card.specs.declared.Card.{Card}
 use Rattle.card.specs.View.{view}
 use Rattle.card.specs.Outcome.{Outcome, replyOf}
-use Rattle.card.specs.Events.{commanded, chainOpened, bytesSent, sessionChanged, poweredUp}
+use Rattle.card.specs.Events.{Played, ended, played, openingPlayed, bytesPlayed, withSession, commanded, chainOpened, bytesSent, sessionChanged, poweredUp}
 use Rattle.demands.specs.Strike.{Line, posted, closed, broken, idle}
 use Rattle.demands.specs.Books.{Op, paid-in, paid-out, rebooked, entered, cleared, Books}
 use Rattle.demands.specs.DataFiles.{Write}
@@ -51,6 +51,14 @@ outcome c power = poweredUp c
 
 abbrev pub next : Card → Event → Card
 next c e = outcome c e .card
+
+-- the same on a state, where there is no bench refusal
+unfoldable pub plays : State → Event → Played
+plays s (command f u handed) = played s u f
+plays s (opens f) = openingPlayed s f
+plays s (delivers b) = bytesPlayed s b
+plays s (session k known) = record { state = withSession s k; stored = 0; out = [] }
+plays s power = record { state = ended s; stored = 0; out = [] }
 
 -- all that is seen of an event: the bench refusal's number or 0, the reply's bytes, its length
 pub record Said : Type 0 where

@@ -2,6 +2,7 @@
 pub mod Names
 pub mod Sound
 pub mod Steps
+pub mod Stored
 pub mod Inside
 pub mod Chained
 pub mod Induct

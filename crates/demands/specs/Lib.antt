@@ -6,8 +6,11 @@ pub mod Calls
 pub mod Demands
 pub mod Sessions
 pub mod Chains
+pub mod Former
+pub mod Ring
 pub mod Examples
 pub mod Laws
 pub mod Proofs
 pub mod Doors
 pub mod Unseen
+pub mod Anew

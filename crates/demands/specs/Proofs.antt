@@ -1,4 +1,4 @@
--- The theorems: what Demands, Sessions and Chains state.
+-- The theorems: what Demands, Sessions, Chains and Ring state.
 pub mod Demand1
 pub mod Demand2
 pub mod Demand3
@@ -8,3 +8,6 @@ pub mod WrongMac
 pub mod AsPlain
 pub mod Torn
 pub mod Whole
+pub mod Forms
+pub mod Slots
+pub mod Worn

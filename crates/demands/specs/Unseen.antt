@@ -25,7 +25,7 @@ unfoldable pub used : Card
 used = reached program keys.zeros (pos 100) written-and-cleared
 
 -- the entry's byte is still there
-pub left-behind : (getD (new .log .slots) 15 0 ≡ 0) × (getD (used .log .slots) 15 0 ≡ 0xBB)
+pub left-behind : (getD (new .log .slots) 31 0 ≡ 0) × (getD (used .log .slots) 31 0 ≡ 0xBB)
 unfolding replies new used written-and-cleared
 left-behind = (refl, refl)
 

@@ -12,6 +12,6 @@ use Rattle.desk.specs.declared.Desk.{Desk}
 unfoldable pub programCard : Card
 programCard = personalised (alike 0xEEEE (record { lower = pos 0; upper = pos 1000 }) true) zeros (pos 100) .card
 
--- a desk with it, zeros handed in, and the buffer of 0102h bytes
+-- a desk with it, zeros handed in, the buffer of 0102h bytes, and nothing stored
 unfoldable pub programDesk : Bool → Desk
-programDesk bench = record { card = programCard; inputs = record { random = replicate 16 0; ti = replicate 4 0 }; room = 0x102; bench = bench }
+programDesk bench = record { card = programCard; inputs = record { random = replicate 16 0; ti = replicate 4 0 }; room = 0x102; stored = 0; bench = bench }

@@ -7,12 +7,13 @@ use settings::Settings;
 ghost use mathlib.Core.Path.{_≡_};
 ghost use Rattle.desk.specs.Program.{programCard, programDesk};
 
-// A card on the desk, what the bench hands in with its events, the length of the reply buffer lent to its commands, and whether
-// lettered lines are taken.
+// A card on the desk, what the bench hands in with its events, the length of the reply buffer lent to its commands, the slot bytes
+// of the log that its last event stored, and whether lettered lines are taken.
 pub struct Desk {
     pub card: Card,
     pub inputs: Inputs,
     pub room: usize,
+    pub stored: u8,
     pub bench: bool,
 }
 
@@ -41,6 +42,7 @@ impl Desk {
                 ti: [0; 4],
             },
             room: Card::REPLY_ROOM,
+            stored: 0,
             bench,
         }
     }

@@ -11,6 +11,7 @@ use Rattle.datafiles.specs.Files as files
 use Rattle.limits.specs.Limits.{crossed, within}
 use Rattle.purse.specs.Purse as purse
 use Rattle.logbook.specs.Journal as journal
+use Rattle.logbook.specs.Ring as ring
 use Rattle.logbook.specs.View as log
 use Rattle.access.specs.Rights.{rightsSound, sealed, granting, accessOf}
 use Rattle.frames.specs.Frame.{wrongSize, wrongClass, wrongParameters, wrongFrame}
@@ -24,7 +25,7 @@ use Rattle.channel.specs.declared.Inputs.{Inputs}
 use Rattle.channel.specs.Channel.{counted, bare}
 use Rattle.modes.specs.Modes.{macedUnder, plainOf}
 use Rattle.rows.specs.Rows.{unknownCommand, interrupts, sentOf, lengthCases, lacksMac, unknownFile, otherKindOrNever, notGranted, partFails, forged, usedUp, switchedOff, parameterCases, ranged, roomOf, amountCases, outside, longRead, nothingPending, rowsFor, statusFor}
-use Rattle.effects.specs.Effects.{purseAfter, journalAfter, filesAfter}
+use Rattle.effects.specs.Effects.{purseAfter, journalAfter, storedAfter, filesAfter}
 use Rattle.replies.specs.Replies.{shownOf}
 use Rattle.card.specs.declared.Card.{Card}
 use Rattle.card.specs.View.{view, put}
@@ -140,5 +141,5 @@ pub expected : Edge → Seen
 expected e = record { replies = e .replies; entries = e .entries }
 
 pub edges-answered : map answered edges ≡ map expected edges
-unfolding answered expected edges inputs played-on settings alike keys.zeros counted bare unchained chainSound macedUnder plainOf pick laid laidIn outsideOf le3 le4 word files.sizeOf files.bytesOf files.zeros files.endOf files.shown files.written crossed within purse.resting purse.credited purse.debited purse.rebooked purse.settled purse.dropped unequal journal.blank journal.joined journal.shown journal.freshOr journal.written journal.cleared journal.pushed journal.resting journal.settled journal.dropped log.cut log.view log.some log.put log.empty rightsSound sealed granting accessOf wrongSize wrongClass wrongParameters wrongFrame onFile namesFile isFile suits rightsOf accessTo logPending rightsBroken unknownCommand interrupts sentOf lengthCases lacksMac unknownFile otherKindOrNever notGranted partFails forged usedUp switchedOff parameterCases ranged roomOf amountCases outside longRead nothingPending rowsFor statusFor purseAfter journalAfter filesAfter channelAfter changed shown macBehind acceptedStatus acceptedPlain shownOf view put brokenBy bench ended refused accepted played laidInto benchRefusal commanded issued blank orderRefusal personalised
+unfolding answered expected edges inputs played-on settings alike keys.zeros counted bare unchained chainSound macedUnder plainOf pick laid laidIn outsideOf le3 le4 word files.sizeOf files.bytesOf files.zeros files.endOf files.shown files.written crossed within purse.resting purse.credited purse.debited purse.rebooked purse.settled purse.dropped unequal journal.blank journal.joined journal.shown journal.freshOr journal.written journal.cleared journal.pushed journal.resting journal.settled journal.stored journal.dropped ring.ringed ring.laidRound log.view journal.some log.put log.empty rightsSound sealed granting accessOf wrongSize wrongClass wrongParameters wrongFrame onFile namesFile isFile suits rightsOf accessTo logPending rightsBroken unknownCommand interrupts sentOf lengthCases lacksMac unknownFile otherKindOrNever notGranted partFails forged usedUp switchedOff parameterCases ranged roomOf amountCases outside longRead nothingPending rowsFor statusFor purseAfter journalAfter storedAfter filesAfter channelAfter changed shown macBehind acceptedStatus acceptedPlain shownOf view put brokenBy bench ended refused accepted played laidInto benchRefusal commanded issued blank orderRefusal personalised
 edges-answered = refl

@@ -31,6 +31,10 @@ journalAfter i d j =
     (pick (eqb i abortTransaction) (journal.dropped j)
     j)))
 
+-- the slot bytes that it stores
+unfoldable pub storedAfter : ℕ → Journal → ℕ
+storedAfter i j = pick (eqb i commitTransaction) (journal.stored j) 0
+
 -- the data files: writes act at once and make nothing pending
 unfoldable pub filesAfter : ℕ → List ℕ → Files → Files
 filesAfter i d f = pick (eqb i writeData) (files.written f (fileOf d) (offsetOf d) (bytesIn d)) f

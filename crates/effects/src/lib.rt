@@ -3,10 +3,14 @@ use columns::table;
 use datafiles::Files;
 use limits::Limits;
 use logbook::Log;
+use logbook::Stored;
 use purse::Purse;
+ghost use mathlib.Core.Bool.{false};
 ghost use mathlib.Core.Path.{_≡_};
-ghost use Rattle.logbook.specs.View.{view, put};
-ghost use Rattle.effects.specs.Effects.{journalAfter, filesAfter};
+ghost use lib.Dec.{eqb};
+ghost use Rattle.columns.specs.Table.{commitTransaction};
+ghost use Rattle.logbook.specs.View.{view, put, putStored};
+ghost use Rattle.effects.specs.Effects.{journalAfter, storedAfter, filesAfter};
 ghost use Rattle.effects.specs.Guarded.{purseIn};
 
 // The value file after the command.
@@ -32,9 +36,10 @@ pub fn next_purse(purse: Purse, limits: Limits, ins: u8, d: &[u8]) -> Purse
     purse
 }
 
-// The log after the command.
-pub fn next_log(log: Log, ins: u8, d: &[u8]) -> Log
-    ensures { λ r. ⌜ r ≡ put log (journalAfter ins (now (d .entry)) (view log)) ⌝ }
+// The log after a command that is no commit.
+fn pending_log(log: Log, ins: u8, d: &[u8]) -> Log
+    requires { ⌜ eqb ins commitTransaction ≡ false ⌝ }
+    ensures { λ r. ⌜ r ≡ put log 0 (journalAfter ins (now (d .entry)) (view log)) ⌝ }
 {
     if ins == table::WRITE_RECORD {
         return log.write(wire::le3_at(d, 1), frames::bytes_in(d));
@@ -42,13 +47,21 @@ pub fn next_log(log: Log, ins: u8, d: &[u8]) -> Log
     if ins == table::CLEAR_RECORD_FILE {
         return log.clear();
     }
-    if ins == table::COMMIT_TRANSACTION {
-        return log.commit();
-    }
     if ins == table::ABORT_TRANSACTION {
         return log.drop_pending();
     }
     log
+}
+
+// The log after the command, and the slot bytes that it stored.
+pub fn next_log(log: Log, ins: u8, d: &[u8]) -> Stored
+    ensures { λ r. ⌜ r ≡ putStored log (storedAfter ins (view log)) (journalAfter ins (now (d .entry)) (view log)) ⌝ }
+{
+    if ins == table::COMMIT_TRANSACTION {
+        return log.commit();
+    }
+    let log = pending_log(log, ins, d);
+    Stored { log, stored: 0 }
 }
 
 // The data files after the command.

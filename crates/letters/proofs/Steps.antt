@@ -18,7 +18,7 @@ use Rattle.notices.specs.Notices.{noticeText}
 use Rattle.card.specs.declared.Reply.{Reply}
 use Rattle.card.specs.Outcome.{Outcome, replyOf}
 use Rattle.desk.specs.declared.Desk.{Desk}
-use Rattle.letters.specs.Letters.{saidOf, withCard, unread, replied, openedOn, sentOn, isOrder, letteredBy, lettered}
+use Rattle.letters.specs.Letters.{saidOf, afterEvent, unread, replied, openedOn, sentOn, isOrder, letteredBy, lettered}
 use Rattle.letters.specs.Laws.{Plays, reply-bytes, Tells}
 
 module _ (k : Desk) (letter : ℕ) where
@@ -53,6 +53,7 @@ module _ (k : Desk) (letter : ℕ) where
         none 0x52,
         none 0x4E,
         none 0x42,
+        none 0x4C,
         g .0,
         g .1,
       )
@@ -95,10 +96,10 @@ tells-two r (a ∷ b ∷ c ∷ x) z e p l g k = absurd (omega arith)
 
 -- what is told of a reply
 pub replied-by : (k : Desk) (o : Outcome) (after : List ℕ) (r : Reply) (n : Notice) → Plays o after r → Tells n (r .refusal) (part after 0 (r .len))
-    → saidOf (record { desk = withCard k (r .card); notice = n }) ≡ replied k o
-unfolding saidOf replied replyOf withCard
+    → saidOf (record { desk = afterEvent k (r .card) (r .stored); notice = n }) ≡ replied k o
+unfolding saidOf replied replyOf afterEvent
 replied-by k o after r n p t =
     let c = r .card in
     let m : r .refusal ≡ o .refusal = ap (λ (x : Reply). x .refusal) (p .0) in
     let q = t (c .purse) (c .log) (c .channel .stage) (c .channel .chain) ∙ (λ i. replyText (m i) (reply-bytes o after r p .0 i)) in
-    λ i. record { next = withCard k (p .0 i .card); out = q i }
+    λ i. record { next = afterEvent k (p .0 i .card) (p .0 i .stored); out = q i }

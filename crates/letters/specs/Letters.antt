@@ -12,6 +12,7 @@ use Rattle.card.specs.declared.Card.{Card}
 use Rattle.card.specs.Outcome.{Outcome}
 use Rattle.card.specs.Events.{chainOpened, bytesSent, sessionChanged, poweredUp, personalised}
 use Rattle.text.specs.Hex.{isHex, spelt}
+use Rattle.decimal.specs.Decimal.{decimal}
 use Rattle.answers.specs.Answers.{numbered, refusalText, replyText}
 use Rattle.books.specs.Books.{booksText}
 use Rattle.orders.specs.Order.{orderIn}
@@ -24,8 +25,9 @@ use Rattle.letters.specs.declared.Told.{Told}
 unfoldable pub saidOf : Told → Said Desk
 saidOf r = record { next = r .desk; out = noticeText (r .notice) (r .desk .card .purse) (r .desk .card .log) (r .desk .card .channel .stage) (r .desk .card .channel .chain) }
 
-unfoldable pub withCard : Desk → Card → Desk
-withCard k c = record { card = c; inputs = k .inputs; room = k .room; bench = k .bench }
+-- the desk after an event that left the card c and stored n slot bytes
+unfoldable pub afterEvent : Desk → Card → ℕ → Desk
+afterEvent k c n = record { card = c; inputs = k .inputs; room = k .room; stored = n; bench = k .bench }
 
 -- a line that does not reach the card: `?`
 unfoldable pub unread : Desk → Said Desk
@@ -33,11 +35,11 @@ unread k = record { next = k; out = 0x3F ∷ [] }
 
 -- a power-up prints an empty line
 unfoldable pub powered : Desk → Said Desk
-powered k = record { next = withCard k (poweredUp (k .card) .card); out = refusalText (poweredUp (k .card) .refusal) }
+powered k = record { next = afterEvent k (poweredUp (k .card) .card) (poweredUp (k .card) .stored); out = refusalText (poweredUp (k .card) .refusal) }
 
 -- the number, 0 where nothing was refused
 unfoldable pub counted : Desk → Outcome → Said Desk
-counted k o = record { next = withCard k (o .card); out = numbered (o .refusal) }
+counted k o = record { next = afterEvent k (o .card) (o .stored); out = numbered (o .refusal) }
 
 -- the length of the buffer lent to an event, at most 0200h
 unfoldable pub lentRoom : ℕ → ℕ
@@ -45,12 +47,12 @@ lentRoom room = pick (ltb 0x200 room) 0x200 room
 
 -- the reply, or the bench refusal
 unfoldable pub replied : Desk → Outcome → Said Desk
-replied k o = record { next = withCard k (o .card); out = replyText (o .refusal) (o .out) }
+replied k o = record { next = afterEvent k (o .card) (o .stored); out = replyText (o .refusal) (o .out) }
 
 -- ---- R: the length of the buffer lent to the events that follow, at most 0200h
 
 unfoldable pub lent : Desk → ℕ → Said Desk
-lent k n = pick (ltb 0x200 n) (unread k) (record { next = record { card = k .card; inputs = k .inputs; room = n; bench = k .bench }; out = numbered 0 })
+lent k n = pick (ltb 0x200 n) (unread k) (record { next = record { card = k .card; inputs = k .inputs; room = n; stored = k .stored; bench = k .bench }; out = numbered 0 })
 
 -- ---- N: what the bench hands in with the events that follow
 
@@ -59,7 +61,7 @@ unfoldable pub inputsIn : List ℕ → Inputs
 inputsIn b = record { random = part b 0 16; ti = part b 16 20 }
 
 unfoldable pub handed : Desk → Inputs → Said Desk
-handed k u = record { next = record { card = k .card; inputs = u; room = k .room; bench = k .bench }; out = numbered 0 }
+handed k u = record { next = record { card = k .card; inputs = u; room = k .room; stored = k .stored; bench = k .bench }; out = numbered 0 }
 
 -- ---- C and D: a chain on the card of the desk
 
@@ -75,6 +77,11 @@ sentOn k b = bytesSent (k .card) b (lentRoom (k .room))
 
 unfoldable pub bookKept : Desk → Said Desk
 bookKept k = record { next = k; out = booksText (k .card .purse) (k .card .log) (k .card .channel .stage) (k .card .channel .chain) }
+
+-- ---- L: the slot bytes that the last event stored
+
+unfoldable pub storedTold : Desk → Said Desk
+storedTold k = record { next = k; out = decimal (k .stored) }
 
 -- ---- a line
 
@@ -93,7 +100,8 @@ letteredBy k letter n digits b =
     (pick (eqb letter 0x43 && leb 2 n && digits) (replied k (openedOn k b))
     (pick (eqb letter 0x44 && digits) (replied k (sentOn k b))
     (pick (eqb letter 0x42 && eqb n 0) (bookKept k)
-    (unread k))))))))
+    (pick (eqb letter 0x4C && eqb n 0) (storedTold k)
+    (unread k)))))))))
 
 unfoldable pub lettered : Desk → ℕ → List ℕ → Said Desk
 lettered k letter rest = letteredBy k letter (length rest) (isHex rest) (pick (isHex rest) (spelt rest) [])

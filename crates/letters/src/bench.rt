@@ -27,6 +27,7 @@ fn personalise(mut desk: Desk, b: &[u8]) -> Told
     let made = Card::personalise(settings, keys, order.value);
     let next = made.card;
     desk.card = next;
+    desk.stored = made.stored;
     Told {
         desk,
         notice: Notice::Number(made.refusal),
@@ -41,6 +42,7 @@ fn change_session(mut desk: Desk, session: Session) -> Told
     let changed = card.change_session(session);
     let next = changed.card;
     desk.card = next;
+    desk.stored = changed.stored;
     Told {
         desk,
         notice: Notice::Number(changed.refusal),
@@ -114,6 +116,13 @@ fn say_spelt(desk: Desk, letter: u8, n: usize, digits: bool, b: &[u8]) -> Told
         return Told {
             desk,
             notice: Notice::Books,
+        };
+    }
+    if (letter == b'L') & (n == 0) {
+        let stored = desk.stored;
+        return Told {
+            desk,
+            notice: Notice::Count(stored),
         };
     }
     Told {

@@ -47,6 +47,7 @@ fn play(mut desk: Desk, opens: bool, b: &[u8]) -> Told
     let played = event(card, opens, b, &mut reply[0..lent]);
     let next = played.card;
     desk.card = next;
+    desk.stored = played.stored;
     let len = played.len;
     Told {
         desk,

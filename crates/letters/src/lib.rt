@@ -34,6 +34,7 @@ fn power_up(mut desk: Desk) -> Told
     let reply = card.power_up();
     let next = reply.card;
     desk.card = next;
+    desk.stored = reply.stored;
     Told {
         desk,
         notice: Notice::Refusal(reply.refusal),

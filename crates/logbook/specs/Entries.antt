@@ -1,63 +1,122 @@
--- Laws of entries: cut out of bytes, and joined again.
-use Prim.Native.Nat.{ℕ, zero, suc, _+_, _-_, _*_, _≤_, min}
-use mathlib.Core.List.{List, [], _∷_, _++_, append-assoc, reverseAux, reverse}
+-- Laws of entries: read from a ring's slots, laid into them, and joined.
+use Prim.Native.Nat.{ℕ, zero, suc, _+_, _-_, _*_, _%_, _≤_, min}
+use mathlib.Core.Bool.{Bool, true, false}
+use mathlib.Core.List.{List, [], _∷_, reverseAux, reverse}
 use mathlib.Core.Path.{_≡_, refl, _∙_, ap}
+use borrow.Author.Tests.{ltb-true, ltb-false}
+use lib.Dec.{ltb}
 use lib.ListN.{length, take, drop, length-append, length-drop}
-use lib.Seq.{take-at, drop-at, take-add, drop-drop, length-take-le}
+use lib.Seq.{length-take-le}
 use native.Mathlib.Omega.{arith}
+use Rattle.wire.specs.Bytes.{laid}
+use Rattle.wire.specs.Laws.{length-laid, laid-own, part-laid, part-before, part-behind}
 use Rattle.logbook.specs.Journal.{joined}
-use Rattle.logbook.specs.View.{cut}
+use Rattle.logbook.specs.Ring.{slotAt, slot, older, newer, ringed, laidRound}
 use Rattle.logbook.specs.Fit.{Sixteens}
 
-pub length-cut : (n : ℕ) (bs : List ℕ) → length (cut n bs) ≡ n
-unfolding cut
-length-cut zero bs = refl
-length-cut (suc n) bs = ap suc (length-cut n (drop 16 bs))
+-- ---- entries read
 
-pub joined-cut : (n : ℕ) (bs : List ℕ) → joined (cut n bs) ≡ take (16 * n) bs
-unfolding cut joined
-joined-cut zero bs = refl
-joined-cut (suc n) bs =
-    let e : 16 * suc n ≡ 16 + 16 * n = omega arith in
-    rw (joined-cut n (drop 16 bs), e, take-add 16 (16 * n) bs)
+pub length-ringed : (n p : ℕ) (bs : List ℕ) → length (ringed n p bs) ≡ n
+unfolding ringed
+length-ringed zero p bs = refl
+length-ringed (suc n) p bs = ap suc (length-ringed n (older p) bs)
 
-pub take-cut : (k n : ℕ) (bs : List ℕ) → take k (cut n bs) ≡ cut (min k n) bs
-unfolding cut
-take-cut zero n bs = let e : min 0 n ≡ 0 = omega arith in rw e
-take-cut (suc k) zero bs = let e : min (suc k) 0 ≡ 0 = omega arith in rw e
-take-cut (suc k) (suc n) bs = let e : min (suc k) (suc n) ≡ suc (min k n) = omega arith in rw (e, take-cut k n (drop 16 bs))
+pub take-ringed : (k n p : ℕ) (bs : List ℕ) → take k (ringed n p bs) ≡ ringed (min k n) p bs
+unfolding ringed
+take-ringed zero n p bs = let e : min 0 n ≡ 0 = omega arith in rw e
+take-ringed (suc k) zero p bs = let e : min (suc k) 0 ≡ 0 = omega arith in rw e
+take-ringed (suc k) (suc n) p bs = let e : min (suc k) (suc n) ≡ suc (min k n) = omega arith in rw (e, take-ringed k n (older p) bs)
 
-drop-cut : (k n : ℕ) (bs : List ℕ) → drop k (cut n bs) ≡ cut (n - k) (drop (16 * k) bs)
-unfolding cut
-drop-cut zero n bs = let e : n - 0 ≡ n = omega arith in rw e
-drop-cut (suc k) zero bs = let e : 0 - suc k ≡ 0 = omega arith in rw e
-drop-cut (suc k) (suc n) bs =
+drop-ringed : (k n p : ℕ) (bs : List ℕ) → drop k (ringed n p bs) ≡ ringed (n - k) (p + 3 * k) bs
+unfolding ringed
+drop-ringed zero n p bs = let e : n - 0 ≡ n = omega arith in let z : p + 3 * 0 ≡ p = omega arith in rw (e, z)
+drop-ringed (suc k) zero p bs = let e : 0 - suc k ≡ 0 = omega arith in rw e
+drop-ringed (suc k) (suc n) p bs =
     let e : suc n - suc k ≡ n - k = omega arith in
-    let d : drop (16 * k) (drop 16 bs) ≡ drop (16 * suc k) bs = let m : 16 + 16 * k ≡ 16 * suc k = omega arith in drop-drop (16 * k) 16 bs ∙ rw m in
-    drop-cut k n (drop 16 bs) ∙ rw (e, d)
+    let m : older p + 3 * k ≡ p + 3 * suc k = omega arith in
+    drop-ringed k n (older p) bs ∙ rw (e, m)
 
 -- c entries from entry r on
-pub cut-range : (r c n : ℕ) (bs : List ℕ) → r + c ≤ n → take c (drop r (cut n bs)) ≡ cut c (drop (16 * r) bs)
-cut-range r c n bs h =
+pub ringed-range : (r c n p : ℕ) (bs : List ℕ) → r + c ≤ n → take c (drop r (ringed n p bs)) ≡ ringed c (p + 3 * r) bs
+ringed-range r c n p bs h =
     let e : min c (n - r) ≡ c = omega arith in
-    rw (drop-cut r n bs, take-cut c (n - r) (drop (16 * r) bs), e)
+    rw (drop-ringed r n p bs, take-ringed c (n - r) (p + 3 * r) bs, e)
+
+-- ---- entries laid
+
+-- a slot is one of four
+laid-round : (bs : List ℕ) (p q : ℕ) (es : List (List ℕ)) → p % 4 ≡ q % 4 → laidRound bs p es ≡ laidRound bs q es
+unfolding laidRound
+laid-round bs p q [] h = refl
+laid-round bs p q (e ∷ es) h = rw (h, laid-round bs (older p) (older q) es (omega arith))
+
+-- entries laid where they were read
+pub laid-ringed : (n p : ℕ) (bs : List ℕ) → laidRound bs p (ringed n p bs) ≡ bs
+unfolding ringed laidRound
+laid-ringed zero p bs = refl
+laid-ringed (suc n) p bs = rw (laid-ringed n (older p) bs) (laid-own bs (slotAt p) 16)
+
+-- a new entry behind those that were read: its slot alone is stored
+pub laid-newer : (n p : ℕ) (bs e : List ℕ) → laidRound bs (newer p) (e ∷ ringed n p bs) ≡ laid bs (slotAt (newer p)) e
+unfolding laidRound
+laid-newer n p bs e = rw (laid-round bs (older (newer p)) p (ringed n p bs) (omega arith), laid-ringed n p bs)
 
 -- ---- entries of 16 bytes
-
-pub cut-joined : (es : List (List ℕ)) (rest : List ℕ) → Sixteens es → cut (length es) (joined es ++ rest) ≡ es
-unfolding cut joined
-cut-joined [] rest h = refl
-cut-joined (e ∷ es) rest (h, hs) = rw (append-assoc e (joined es) rest, take-at e (joined es ++ rest) 16 h, drop-at e (joined es ++ rest) 16 h, cut-joined es rest hs)
 
 pub length-joined : (es : List (List ℕ)) → Sixteens es → length (joined es) ≡ 16 * length es
 unfolding joined
 length-joined [] h = refl
 length-joined (e ∷ es) (h, hs) = let l = length-joined es hs in simp length-append (omega arith)
 
-pub sixteens-cut : (n : ℕ) (bs : List ℕ) → 16 * n ≤ length bs → Sixteens (cut n bs)
-unfolding cut
-sixteens-cut zero bs h = tt
-sixteens-cut (suc n) bs h = (length-take-le 16 bs (omega arith), sixteens-cut n (drop 16 bs) (simp length-drop (omega arith)))
+pub length-slot : (p : ℕ) (bs : List ℕ) → length bs ≡ 64 → length (slot p bs) ≡ 16
+length-slot p bs h = length-take-le 16 (drop (slotAt p) bs) (simp length-drop (omega arith))
+
+pub sixteens-ringed : (n p : ℕ) (bs : List ℕ) → length bs ≡ 64 → Sixteens (ringed n p bs)
+unfolding ringed
+sixteens-ringed zero p bs h = tt
+sixteens-ringed (suc n) p bs h = (length-slot p bs h, sixteens-ringed n (older p) bs h)
+
+pub length-round : (bs : List ℕ) (p : ℕ) (es : List (List ℕ)) → Sixteens es → length bs ≡ 64 → length (laidRound bs p es) ≡ 64
+unfolding laidRound
+length-round bs p [] s h = h
+length-round bs p (e ∷ es) (s, ss) h =
+    let l = length-round bs (older p) es ss h in
+    length-laid (laidRound bs (older p) es) (slotAt p) e (omega arith) ∙ l
+
+-- one, two and three slots before slot p are others
+another : (p k : ℕ) → 1 ≤ k → k ≤ 3 → (p + 3 * k) % 4 ≡ p % 4 → ⊥
+another p zero a b e = omega arith
+another p (suc zero) a b e = omega arith
+another p (suc (suc zero)) a b e = omega arith
+another p (suc (suc (suc zero))) a b e = omega arith
+another p (suc (suc (suc (suc k)))) a b e = omega arith
+
+module _ (bs e : List ℕ) (p : ℕ) (h : length bs ≡ 64) (s : length e ≡ 16) where
+  pub slot-same : slot p (laid bs (slotAt p) e) ≡ e
+  slot-same = part-laid bs (slotAt p) e (omega arith) 16 s
+
+  pub slot-other : (q : ℕ) → (q % 4 ≡ p % 4 → ⊥) → slot q (laid bs (slotAt p) e) ≡ slot q bs
+  slot-other q n = by (ltb (q % 4) (p % 4)) refl
+    where
+      by : (b : Bool) → ltb (q % 4) (p % 4) ≡ b → slot q (laid bs (slotAt p) e) ≡ slot q bs
+      by true t = let a = ltb-true (q % 4) (p % 4) t in part-before bs (slotAt p) e (omega arith) (slotAt q) 16 (omega arith)
+      by false t = let a = ltb-false (q % 4) (p % 4) t in ap (λ (l : List ℕ). take 16 l) (part-behind bs (slotAt p) e (omega arith) (slotAt q) (omega arith))
+
+  -- the k-th entry before slot p and those before it, as far as three
+  apart : (n k : ℕ) → 1 ≤ k → k + n ≤ 4 → ringed n (p + 3 * k) (laid bs (slotAt p) e) ≡ ringed n (p + 3 * k) bs
+  unfolding ringed
+  apart zero k a b = refl
+  apart (suc n) k a b =
+      let m : older (p + 3 * k) ≡ p + 3 * suc k = omega arith in
+      rw (m, slot-other (p + 3 * k) (another p k a (omega arith)), apart n (suc k) (omega arith) (omega arith))
+
+pub ringed-laid : (bs : List ℕ) (p : ℕ) (es : List (List ℕ)) → Sixteens es → length es ≤ 4 → length bs ≡ 64 → ringed (length es) p (laidRound bs p es) ≡ es
+unfolding ringed laidRound
+ringed-laid bs p [] s f h = refl
+ringed-laid bs p (e ∷ es) (s, ss) f h =
+    let x = laidRound bs (older p) es in
+    let l : length x ≡ 64 = length-round bs (older p) es ss h in
+    rw (slot-same x e p l s, apart x e p l s (length es) 1 (omega arith) (omega arith), ringed-laid bs (older p) es ss (omega arith) h)
 
 pub sixteens-take : (n : ℕ) (es : List (List ℕ)) → Sixteens es → Sixteens (take n es)
 sixteens-take zero es h = tt

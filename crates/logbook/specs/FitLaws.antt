@@ -13,14 +13,14 @@ use Rattle.logbook.specs.declared.Log.{Log}
 use Rattle.logbook.specs.Journal.{Journal, blank, joined, shown, freshOr, written, cleared, pushed, resting, settled, dropped}
 use Rattle.logbook.specs.View.{view}
 use Rattle.logbook.specs.Fit.{Sixteens, Fit}
-use Rattle.logbook.specs.Entries.{length-cut, length-joined, sixteens-cut, sixteens-take, sixteens-drop, sixteens-reverse}
+use Rattle.logbook.specs.Entries.{length-ringed, length-joined, sixteens-ringed, sixteens-take, sixteens-drop, sixteens-reverse}
 
 pub fit-view : (l : Log) → l .count ≤ 4 → length (l .slots) ≡ 64 → length (l .entry) ≡ 16 → Fit (view l)
 unfolding view
 fit-view l few s e =
-    let n = length-cut (l .count) (l .slots) in
+    let n = length-ringed (l .count) (l .place) (l .slots) in
     record {
-      sized = sixteens-cut (l .count) (l .slots) (omega arith);
+      sized = sixteens-ringed (l .count) (l .place) (l .slots) s;
       few = omega arith;
       fresh-sized = pick-both (λ (fs : List (List ℕ)). Sixteens fs) (l .adds) (l .entry ∷ []) [] (e, tt) tt;
       fresh-one = pick-both (λ (fs : List (List ℕ)). length fs ≤ 1) (l .adds) (l .entry ∷ []) [] (omega arith) (omega arith);
@@ -67,9 +67,6 @@ unfolding dropped
 fit-dropped j f = fit-resting (j .entries) (f .sized) (f .few)
 
 -- ---- lengths
-
-pub joined-room : (j : Journal) → Fit j → length (joined (j .entries)) ≤ 64
-joined-room j f = let l = length-joined (j .entries) (f .sized) in let n = f .few in omega arith
 
 pub shown-room : (j : Journal) (r c : ℕ) → Fit j → length (shown j r c) ≤ 64
 unfolding shown

@@ -61,6 +61,15 @@ resting es = record { entries = es; fresh = []; clears = false }
 unfoldable pub settled : Journal → Journal
 settled j = resting (pick (j .clears) [] (pushed (j .fresh) (j .entries)))
 
+-- an entry is pending
+unfoldable pub some : List (List ℕ) → Bool
+some [] = false
+some (f ∷ fs) = true
+
+-- the slot bytes that a commit stores: those of a new entry, and else none
+unfoldable pub stored : Journal → ℕ
+stored j = pick (j .clears) 0 (pick (some (j .fresh)) entrySize 0)
+
 -- what was pending is dropped
 unfoldable pub dropped : Journal → Journal
 dropped j = resting (j .entries)

@@ -11,12 +11,13 @@ ghost use Rattle.answers.specs.Answers.{refusalText};
 ghost use Rattle.text.specs.Shown.{inRoom, Adds};
 ghost use Rattle.notices.specs.Notices.{noticeText};
 
-// `?`, `!` and a number, the same but nothing for 0, the two bytes of a status word in digits, the books.
+// `?`, `!` and a number, the same but nothing for 0, the two bytes of a status word in digits, a count, the books.
 pub enum Notice {
     Unread,
     Number(u8),
     Refusal(u8),
     Status(u8, u8),
+    Count(u8),
     Books,
 }
 
@@ -57,6 +58,9 @@ fn put_text(
         Notice::Status(high, low) => {
             let two = [high, low];
             return text::put_digits(&two, text);
+        }
+        Notice::Count(n) => {
+            return decimal::put_decimal(n as u32, text);
         }
         Notice::Books => {
             return books::put_books(purse, log, stage, chain, text);

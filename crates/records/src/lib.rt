@@ -8,15 +8,15 @@ ghost use Rattle.tables.specs.Choice.{pick};
 ghost use Rattle.wire.specs.Bytes.{laid, Shows};
 ghost use Rattle.records.specs.Shown.{oldestFirst, shownIn};
 
-// Lays number entries from entry first on over the front of reply, the oldest leading.
-fn lay_entries(slots: &[u8], first: usize, number: usize, reply: &mut [u8]) -> usize
+// Lays number entries from entry first on over the front of reply, the oldest leading. The newest entry lies in slot place.
+fn lay_entries(slots: &[u8], place: u8, first: usize, number: usize, reply: &mut [u8]) -> usize
     requires { ⌜ (length (now slots) ≡ 64) × (first + number ≤ 4) × (64 ≤ length (now reply)) ⌝ }
-    ensures { λ r. ⌜ (now (reply .exit) ≡ laid (now (reply .entry)) 0 (oldestFirst (now (slots .entry)) first number)) × (r ≡ length (oldestFirst (now (slots .entry)) first number)) ⌝ }
+    ensures { λ r. ⌜ (now (reply .exit) ≡ laid (now (reply .entry)) 0 (oldestFirst (now (slots .entry)) place first number)) × (r ≡ length (oldestFirst (now (slots .entry)) place first number)) ⌝ }
 {
     let end = first + number;
     let mut k = 0;
     while k < number {
-        let i = Log::ENTRY * (end - (k + 1));
+        let i = Log::ENTRY * ((place as usize + Log::BACK * (end - (k + 1))) % Log::ROUND);
         wire::lay(reply, Log::ENTRY * k, &slots[i..i + Log::ENTRY]);
         k += 1;
     }
@@ -49,5 +49,5 @@ pub fn show(log: Log, first: u32, count: u32, reply: &mut [u8]) -> usize
     }
     let slots = log.slots;
     let number = span(log.count, first, count);
-    lay_entries(&slots, first as usize, number, reply)
+    lay_entries(&slots, log.place, first as usize, number, reply)
 }

@@ -2,7 +2,7 @@
 use mathlib.Core.Bool.{Bool, _||_}
 use Rattle.datafiles.specs.declared.Files.{Files}
 use Rattle.purse.specs.declared.Purse.{Purse}
-use Rattle.logbook.specs.Journal.{Journal}
+use Rattle.logbook.specs.Journal.{Journal, some}
 use Rattle.logbook.specs.declared.Log.{Log}
 use Rattle.logbook.specs.View as log
 use Rattle.keys.specs.declared.Keys.{Keys}
@@ -27,4 +27,4 @@ pub record State : Type 0 where
 
 -- something is pending on the log
 unfoldable pub logPending : Journal → Bool
-logPending j = log.some (j .fresh) || j .clears
+logPending j = some (j .fresh) || j .clears

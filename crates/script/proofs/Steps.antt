@@ -22,7 +22,7 @@ use Rattle.card.specs.declared.Reply.{Reply}
 use Rattle.card.specs.Outcome.{Outcome, replyOf}
 use Rattle.desk.specs.declared.Desk.{Desk}
 use Rattle.letters.specs.declared.Told.{Told}
-use Rattle.letters.specs.Letters.{saidOf, withCard, replied, otherSaid}
+use Rattle.letters.specs.Letters.{saidOf, afterEvent, replied, otherSaid}
 use Rattle.letters.specs.Laws.{Plays, reply-bytes}
 use Rattle.script.specs.Lines.{commandedOn, lineSaid}
 
@@ -36,15 +36,15 @@ module _ (k : Desk) (l : List ℕ) (o : Outcome) (r : Reply) (after : List ℕ) 
       let m : r .refusal ≡ o .refusal = ap (λ (x : Reply). x .refusal) (p .0) in
       ap (λ (x : Said Desk). x .out) e ∙ rw (b, m) refl
 
-  desk : withCard k (r .card) ≡ lineSaid k l .next
+  desk : afterEvent k (r .card) (r .stored) ≡ lineSaid k l .next
   unfolding replied replyOf
-  desk = ap (λ (x : Reply). withCard k (x .card)) (p .0) ∙ sym (ap (λ (x : Said Desk). x .next) e)
+  desk = ap (λ (x : Reply). afterEvent k (x .card) (x .stored)) (p .0) ∙ sym (ap (λ (x : Said Desk). x .next) e)
 
 -- ---- a desk and the card of a run
 
-pub own-card : (k : Desk) → withCard k (k .card) ≡ k
-unfolding withCard
-own-card k = refl
+pub own-state : (k : Desk) → afterEvent k (k .card) (k .stored) ≡ k
+unfolding afterEvent
+own-state k = refl
 
 -- where there is room for every answer, one is written
 pub written : (out x : List ℕ) (n m r : ℕ) (bytes : List ℕ) → Adds (inRoom (length out - n) (replyLine r bytes)) out n x m
@@ -81,7 +81,7 @@ module _ (k₀ : Desk) (t b : List ℕ) (k : Desk) (at n : ℕ) (out : List ℕ)
         pub played-full : m ≡ n → Goes (went lineSaid k₀ (linesAfter [] t) (length b)) b x k at n
         played-full z = sofar-full lineSaid k₀ t b k at n out s _ (line .0) (omega arith) (line .1) x m said z
 
-        pub played-next : (m ≡ n → ⊥) → Sofar lineSaid k₀ t b (withCard k (r .card)) (at + 2 * size + 1) m x
+        pub played-next : (m ≡ n → ⊥) → Sofar lineSaid k₀ t b (afterEvent k (r .card) (r .stored)) (at + 2 * size + 1) m x
         played-next z = sofar-as lineSaid k₀ t b _ _ _ m x (desk k (part t at (at + 2 * size)) _ r back command v) (sofar-next lineSaid k₀ t b k at n out s _ (line .0) (omega arith) (line .1) x m said z)
 
   -- none: another line, up to place e

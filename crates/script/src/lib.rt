@@ -47,6 +47,7 @@ pub fn run(mut desk: Desk, text: &[u8], out: &mut [u8]) -> Went
     let mut played = Reply {
         card: first,
         refusal: 0,
+        stored: desk.stored,
         len: 0,
     };
     while at < text.len() {
@@ -57,6 +58,7 @@ pub fn run(mut desk: Desk, text: &[u8], out: &mut [u8]) -> Went
             let card = played.card;
             if out.len() - n < MOST_ANSWER {
                 desk.card = card;
+                desk.stored = played.stored;
             }
             played = card.command(&frame[0..size], inputs, &mut reply[0..lent]);
             let len = played.len;
@@ -74,6 +76,7 @@ pub fn run(mut desk: Desk, text: &[u8], out: &mut [u8]) -> Went
         }
         let card = played.card;
         desk.card = card;
+        desk.stored = played.stored;
         let e = lines::line_end(text, at);
         if e == text.len() {
             return Went {
@@ -96,6 +99,7 @@ pub fn run(mut desk: Desk, text: &[u8], out: &mut [u8]) -> Went
         played = Reply {
             card: next,
             refusal: 0,
+            stored: desk.stored,
             len: 0,
         };
         n = put;
@@ -103,6 +107,7 @@ pub fn run(mut desk: Desk, text: &[u8], out: &mut [u8]) -> Went
     }
     let card = played.card;
     desk.card = card;
+    desk.stored = played.stored;
     Went {
         desk,
         read: at,

@@ -1,9 +1,9 @@
 -- The same rules as the code asks them, part by part.
-use Prim.Native.Nat.{_≤_}
+use Prim.Native.Nat.{_≤_, _<_}
 use mathlib.Core.List.{List, [], _∷_}
 use mathlib.Core.Bool.{Bool, false, not, _&&_, _||_}
 use mathlib.Core.Path.{_≡_}
-use borrow.Author.Tests.{ltb-false}
+use borrow.Author.Tests.{ltb-false, ltb-true, not-false}
 use lib.Dec.{ltb, eqb}
 use Rattle.tables.specs.Choice.{any, None, none, no-any, or-no, or-none, fail-alike}
 use Rattle.limits.specs.declared.Limits.{Limits}
@@ -37,11 +37,19 @@ valueBroken l p logPending = any (valueRules l p logPending)
 
 -- of the log
 unfoldable pub logBroken : Log → Bool
-logBroken l = ltb mostEntries (l .count) || (l .adds && l .clears)
+logBroken l = ltb mostEntries (l .count) || not (ltb (l .place) mostEntries) || (l .adds && l .clears)
 
 pub log-few : (l : Log) → logBroken l ≡ false → l .count ≤ mostEntries
 unfolding logBroken
-log-few l e = ltb-false _ _ (or-no _ _ e .0)
+log-few l e = ltb-false _ _ (or-no _ _ (or-no _ _ e .0) .0)
+
+pub log-placed : (l : Log) → logBroken l ≡ false → l .place < mostEntries
+unfolding logBroken
+log-placed l e = ltb-true _ _ (not-false _ (or-no (ltb mostEntries (l .count)) (not (ltb (l .place) mostEntries)) (or-no (ltb mostEntries (l .count) || not (ltb (l .place) mostEntries)) (l .adds && l .clears) e .0) .1))
+
+pub log-apart : (l : Log) → logBroken l ≡ false → (l .adds && l .clears) ≡ false
+unfolding logBroken
+log-apart l e = or-no (ltb mostEntries (l .count) || not (ltb (l .place) mostEntries)) (l .adds && l .clears) e .1
 
 -- of a chain
 unfoldable pub chainBroken : Stage → Chain → Bool
@@ -62,16 +70,17 @@ module _ (s : Settings) (p : Purse) (l : Log) (g : Stage) (k : Chain) where
   pub parted : brokenBy s p l g k ≡ false → None (parts s p l g k)
   unfolding brokenBy logBroken valueBroken chainBroken
   parted e =
-      let (rights, (limits, (value, (pending, (few, (session, (allowance, (left, (apart, (debits, (noted, (equal, (chain, (free, t)))))))))))))) = none (rules s p l g k) e in
-      (rights, (limits, (session, (or-none _ _ few apart, (no-any (valueRules (s .limits) p (l .adds || l .clears)) (value, (pending, (allowance, (left, (debits, (noted, (equal, tt))))))), (or-none _ _ chain free, tt))))))
+      let (rights, (limits, (value, (pending, (few, (placed, (session, (allowance, (left, (apart, (debits, (noted, (equal, (chain, (free, t))))))))))))))) = none (rules s p l g k) e in
+      (rights, (limits, (session, (or-none _ _ (or-none _ _ few placed) apart, (no-any (valueRules (s .limits) p (l .adds || l .clears)) (value, (pending, (allowance, (left, (debits, (noted, (equal, tt))))))), (or-none _ _ chain free, tt))))))
 
   pub joined : None (parts s p l g k) → brokenBy s p l g k ≡ false
   unfolding brokenBy logBroken valueBroken chainBroken
   joined (rights, (limits, (session, (log, (figures, (open-chain, t)))))) =
-      let (few, apart) = or-no _ _ log in
+      let (low, apart) = or-no _ _ log in
+      let (few, placed) = or-no _ _ low in
       let (value, (pending, (allowance, (left, (debits, (noted, (equal, u))))))) = none (valueRules (s .limits) p (l .adds || l .clears)) figures in
       let (chain, free) = or-no _ _ open-chain in
-      no-any (rules s p l g k) (rights, (limits, (value, (pending, (few, (session, (allowance, (left, (apart, (debits, (noted, (equal, (chain, (free, tt))))))))))))))
+      no-any (rules s p l g k) (rights, (limits, (value, (pending, (few, (placed, (session, (allowance, (left, (apart, (debits, (noted, (equal, (chain, (free, tt)))))))))))))))
 
   pub by-parts : any (parts s p l g k) ≡ brokenBy s p l g k
   by-parts = fail-alike _ _ (λ e. joined (none (parts s p l g k) e)) (λ e. no-any (parts s p l g k) (parted e))

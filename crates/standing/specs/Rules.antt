@@ -40,6 +40,7 @@ rules s p l g k =
     ∷ not (within (s .limits) (p .value))
     ∷ not (within (s .limits) (p .pending))
     ∷ ltb mostEntries (l .count)
+    ∷ not (ltb (l .place) mostEntries)
     ∷ not (stageSound g)
     ∷ ltb largest (p .allowance)
     ∷ ltb (p .allowance) (p .left)

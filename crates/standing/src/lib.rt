@@ -33,7 +33,7 @@ fn value_breaks(purse: Purse, limits: Limits, log_pending: bool) -> bool
 fn log_breaks(log: Log) -> bool
     ensures { λ r. ⌜ r ≡ logBroken log ⌝ }
 {
-    (Log::MOST < log.count) | (log.adds & log.clears)
+    (Log::MOST < log.count) | !(log.place < Log::MOST) | (log.adds & log.clears)
 }
 
 // Those of an open chain.

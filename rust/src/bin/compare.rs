@@ -28,8 +28,8 @@ counter, each with another end.
 
 Options:
   --events N   run at least N events in the first: commands, frames of chains,
-               session changes and power-ups (personalisations, R, N, B and ?
-               lines don't count); 1350000 if not given
+               session changes and power-ups (personalisations, R, N, B, L and
+               ? lines don't count); 1350000 if not given
   --ends N     run so many of the others, some 65,550 events each and more with
                chains; 21 if not given, which is one for each end
   --seed S     the seed of the scripts, a decimal number; 1 if not given

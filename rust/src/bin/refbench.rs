@@ -30,6 +30,8 @@ is read.
   N and 40 hex digits                     the card's random number and
                                           transaction identifier; prints !0
   B                                       prints the books
+  L                                       prints the slot bytes that the last
+                                          event stored, in decimal
   any other, or over 1,024 characters     prints ?
 ";
 

@@ -4,7 +4,7 @@
 
 use super::{
     file_and_two, parse_frame, put_status, write_range, BenchRefusal, Card, FileName, Instruction,
-    Refusal, Session, Status, REPLY_ROOM,
+    Refusal, Reply, Session, Status, REPLY_ROOM,
 };
 
 /// The most bytes in one file frame.
@@ -33,28 +33,28 @@ impl Chain {
 impl Card {
     /// Opens a chain with a frame of WriteData that ends behind the length. A
     /// refusal is replied as that of a command, an accepted opening replies
-    /// nothing; the result is the reply's length.
-    pub fn open_chain(&mut self, frame: &[u8], reply: &mut [u8]) -> Result<usize, BenchRefusal> {
+    /// nothing; the result has the reply's length.
+    pub fn open_chain(&mut self, frame: &[u8], reply: &mut [u8]) -> Result<Reply, BenchRefusal> {
         if reply.len() < REPLY_ROOM {
             return Err(BenchRefusal::ReplyRoom);
         }
-        Ok(match self.answer_opening(frame) {
+        Ok(Reply::of_length(match self.answer_opening(frame) {
             Ok(()) => 0,
             Err(refusal) => put_status(refusal.status(), 0, reply),
-        })
+        }))
     }
 
     /// A file frame. A refusal is replied, and the last frame of a chain; the
-    /// others reply nothing. The result is the reply's length.
-    pub fn file_frame(&mut self, bytes: &[u8], reply: &mut [u8]) -> Result<usize, BenchRefusal> {
+    /// others reply nothing. The result has the reply's length.
+    pub fn file_frame(&mut self, bytes: &[u8], reply: &mut [u8]) -> Result<Reply, BenchRefusal> {
         if reply.len() < REPLY_ROOM {
             return Err(BenchRefusal::ReplyRoom);
         }
-        Ok(match self.answer_file_frame(bytes) {
+        Ok(Reply::of_length(match self.answer_file_frame(bytes) {
             Ok(None) => 0,
             Ok(Some(status)) => put_status(status.word(), 0, reply),
             Err(refusal) => put_status(refusal.status(), 0, reply),
-        })
+        }))
     }
 
     /// An opening without a reply: the refusal, whose effect has then taken

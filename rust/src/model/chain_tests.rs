@@ -12,7 +12,8 @@ fn opening(file: u8, offset: u32, length: u32) -> Vec<u8> {
 /// The reply to an opening; what lies behind it in the buffer stays.
 fn open(card: &mut Card, frame: &[u8]) -> Vec<u8> {
     let mut room = [0xA5; REPLY_ROOM];
-    let length = card.open_chain(frame, &mut room).expect("room enough");
+    let Reply { length, stored } = card.open_chain(frame, &mut room).expect("room enough");
+    assert_eq!(stored, 0);
     assert!(room[length..].iter().all(|&byte| byte == 0xA5));
     room[..length].to_vec()
 }
@@ -20,7 +21,8 @@ fn open(card: &mut Card, frame: &[u8]) -> Vec<u8> {
 /// The reply to a file frame; what lies behind it in the buffer stays.
 fn deliver(card: &mut Card, bytes: &[u8]) -> Vec<u8> {
     let mut room = [0xA5; REPLY_ROOM];
-    let length = card.file_frame(bytes, &mut room).expect("room enough");
+    let Reply { length, stored } = card.file_frame(bytes, &mut room).expect("room enough");
+    assert_eq!(stored, 0);
     assert!(room[length..].iter().all(|&byte| byte == 0xA5));
     room[..length].to_vec()
 }

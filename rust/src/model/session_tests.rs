@@ -31,7 +31,7 @@ pub(super) fn keyed(rights: u16, modes: [Mode; 5]) -> Card {
 /// The reply to a frame with [`INPUTS`] handed in.
 pub(super) fn send(card: &mut Card, frame: &[u8]) -> Vec<u8> {
     let mut room = [0xA5; REPLY_ROOM];
-    let length = card.command(frame, &INPUTS, &mut room).unwrap();
+    let length = card.command(frame, &INPUTS, &mut room).unwrap().length;
     assert!(room[length..].iter().all(|&byte| byte == 0xA5));
     room[..length].to_vec()
 }
@@ -149,7 +149,8 @@ fn published_exchange() {
     let mut card = Card::program_card();
     let mut room = [0; REPLY_ROOM];
     let first = first_part(0);
-    assert_eq!(card.command(&first, &inputs, &mut room), Ok(18));
+    let replied = card.command(&first, &inputs, &mut room);
+    assert_eq!(replied, Ok(Reply::of_length(18)));
     assert_eq!(
         room[..18],
         bytes::<18>("A04C124213C186F22399D33AC2A3021591AF")
@@ -158,7 +159,8 @@ fn published_exchange() {
         bytes("35C3E05A752E0144BAC0DE51C1F22C56B34408A23D8AEA266CAB947EA8E0118D");
     // What is handed in with the second part does not matter.
     let second = frame(0xAF, &second);
-    assert_eq!(card.command(&second, &Inputs::default(), &mut room), Ok(34));
+    let replied = card.command(&second, &Inputs::default(), &mut room);
+    assert_eq!(replied, Ok(Reply::of_length(34)));
     assert_eq!(
         room[..34],
         bytes::<34>("3FA64DB5446D1F34CD6EA311167F5E4985B89690C04A05F17FA7AB2F081206639100")

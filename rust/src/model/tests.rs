@@ -8,7 +8,8 @@ pub(super) fn reply(card: &mut Card, frame: &[u8]) -> Vec<u8> {
     let inputs = Inputs::default();
     let length = card
         .command(frame, &inputs, &mut room)
-        .expect("room enough");
+        .expect("room enough")
+        .length;
     assert!(room[length..].iter().all(|&byte| byte == 0xA5));
     room[..length].to_vec()
 }
@@ -312,6 +313,46 @@ fn the_switch_comes_before_an_amount_of_zero() {
     })
     .unwrap();
     assert_eq!(reply(&mut card, &limited_credit(0)), [0x91, 0x9D]);
+}
+
+/// The slot bytes that a command stores.
+fn stored(card: &mut Card, frame: &[u8]) -> usize {
+    let replied = card.command(frame, &Inputs::default(), &mut [0; REPLY_ROOM]);
+    replied.expect("room enough").stored
+}
+
+#[test]
+fn only_a_commit_with_a_new_entry_stores() {
+    let mut card = Card::program_card();
+    let write = with_write(0x8B, 0x01, 3, &[0x77]);
+    let clear = frame(0xEB, &[0x01]);
+    for _ in 0..6 {
+        assert_eq!(stored(&mut card, &write), 0);
+        assert_eq!(stored(&mut card, &commit()), ENTRY_SIZE);
+    }
+    // With figures, and with as many writes as there may be.
+    for frame in [&debit(1), &write, &write] {
+        assert_eq!(stored(&mut card, frame), 0);
+    }
+    assert_eq!(stored(&mut card, &commit()), ENTRY_SIZE);
+    // Figures alone, an abort, a clear, a clear that drops the entry.
+    for frames in [
+        [debit(1), commit(), commit()],
+        [write.clone(), abort(), commit()],
+        [clear.clone(), commit(), commit()],
+        [write.clone(), clear, commit()],
+    ] {
+        for frame in frames {
+            assert_eq!(stored(&mut card, &frame), 0);
+        }
+    }
+    assert_eq!(card.entries().count(), 0);
+    // A refusal with an entry pending, also of the commit itself.
+    for refused in [get_value(0x07), frame(0xC7, &[0x01])] {
+        for frame in [write.clone(), refused, commit()] {
+            assert_eq!(stored(&mut card, &frame), 0);
+        }
+    }
 }
 
 #[test]

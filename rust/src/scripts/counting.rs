@@ -6,9 +6,11 @@ use crate::bench::BASE_GROUP;
 use crate::frames::{amount_frame, file_place, ins, LONGEST_WRITE};
 use crate::messaging::MAC_SIZE;
 use crate::model::{
-    Accepted, Chain, Condition, Mode, Refusal, Session, Status, LONGEST_MAC_READ, REPLY_ROOM,
+    Accepted, Books, Chain, Condition, Entry, Mode, Refusal, Session, Status, LONGEST_MAC_READ,
+    REPLY_ROOM,
 };
-use crate::tally::{LineSort, Tally};
+use crate::ring::Ring;
+use crate::tally::{LastEvent, LineSort, Tally};
 use crate::terminal::parts;
 
 impl Writer {
@@ -27,6 +29,8 @@ impl Writer {
                 tally.with_keys += u64::from(line.len() > 1 + 2 * BASE_GROUP);
             }
             LineSort::Books => tally.books += 1,
+            // By the last event, in `count_slots`.
+            LineSort::Stored => {}
             LineSort::Inputs => tally.inputs += 1,
             LineSort::Other => tally.others += 1,
             LineSort::NoRoom => tally.no_room += 1,
@@ -48,6 +52,40 @@ impl Writer {
         };
         if drops {
             self.open = 0;
+        }
+    }
+
+    /// Counts what has to do with the log's slots, and goes along with them: a
+    /// line that was answered, with the books and the new entry before it.
+    pub(super) fn count_slots(
+        &mut self,
+        sort: LineSort,
+        line: &[u8],
+        before: &Books,
+        entry: Option<Entry>,
+    ) {
+        if sort == LineSort::Stored {
+            self.tally.asked[self.last as usize] += 1;
+            let stored = u64::from(self.bench.stored() > 0);
+            self.tally.asked_behind[self.behind as usize] += stored;
+        }
+        self.behind = sort;
+        let event = match LastEvent::of(sort, line, &self.answer, before) {
+            Some(event) => event,
+            None => return,
+        };
+        self.last = event;
+        match event {
+            LastEvent::Entry | LastEvent::EntryAndValue => {
+                self.ring.store(&entry.expect("a new entry was pending"));
+            }
+            LastEvent::Clear => self.ring.clear(),
+            LastEvent::Personalised | LastEvent::Blank => self.ring = Ring::default(),
+            LastEvent::Accepted if line[2..4].eq_ignore_ascii_case(b"AB") => {
+                let (slot, entries) = self.ring.place().expect("an empty log is not read");
+                self.tally.log_reads[slot][entries - 1] += 1;
+            }
+            _ => {}
         }
     }
 

@@ -1,8 +1,7 @@
 //! Scripts that play a session to the end of its command counter.
 
-use super::{Mood, Script, Theme, Writer};
+use super::{Script, Theme, Writer};
 use crate::aes::Block;
-use crate::bench::Bench;
 use crate::frames::{amount_frame, frame, ins, read_frame, write_frame};
 use crate::model::Session;
 use crate::rng::Rng;
@@ -32,11 +31,7 @@ impl Writer {
     /// is the same whatever scripts were written before.
     pub fn end_script(&mut self, seed: u64, end: u64) -> Script {
         let rng = std::mem::replace(&mut self.rng, Rng::new(seed ^ (end << 32)));
-        self.bench = Bench::new();
-        self.theme = Theme::Sessions;
-        self.mood = Mood::CALM;
-        self.open = 0;
-        self.over = None;
+        self.begin(Theme::Sessions);
         let end = end.wrapping_sub(1) % ENDS;
         let chains = if end < CHAIN_ENDS { 0 } else { 10 };
         self.line(CARD.to_vec());

@@ -148,7 +148,7 @@ impl Writer {
     pub(super) fn other(&mut self) {
         let frame = self.sound_frame();
         let mut line = hex_line(b"", &frame);
-        match self.rng.below(27) {
+        match self.rng.below(28) {
             0 => drop(line.pop()),
             1 => line.push(b'\r'),
             2 => line.push(b' '),
@@ -237,6 +237,21 @@ impl Writer {
                     _ => line.resize(LONGEST_LINE + 1, b'0'),
                 }
             }
+            27 => {
+                line = self
+                    .rng
+                    .pick(&[
+                        &b"LL"[..],
+                        b"L0",
+                        b"L00",
+                        b"L16",
+                        b"L ",
+                        b" L",
+                        b"l",
+                        b"L\r",
+                    ])
+                    .to_vec()
+            }
             14 => line = hex_line(b"!", &frame),
             15 => line = b"90 6C 00 00 01 03 00".to_vec(),
             16 => line = b"0x906C0000010300".to_vec(),
@@ -250,7 +265,7 @@ impl Writer {
                 line.resize(length as usize, b'0');
             }
             19 if self.rng.percent(10) => {
-                line = vec![self.rng.pick(b"PSRBNCD ?"); LONGEST_LINE + 1];
+                line = vec![self.rng.pick(b"PSRBNCDL ?"); LONGEST_LINE + 1];
             }
             _ => {
                 let length = 1 + self.rng.below(12);

@@ -18,10 +18,10 @@ use Rattle.effects.specs.Effects.{purseAfter, journalAfter}
 use Rattle.card.specs.Events.{changed, ended, Played, refused, acceptedPlain, accepted, judged, played, opening, openingPlayed, delivered, bytesPlayed, withSession}
 use Rattle.demands.specs.Strike.{Line, broken, idle, strike, part, through}
 use Rattle.demands.specs.Books.{Op, valueAfter, Books, booked}
-use Rattle.demands.specs.History.{Handed, Event, command, opens, delivers, session, power, run, along, bookLine, plainIn, bookAccount, lineBy, booksOf}
+use Rattle.demands.specs.History.{Handed, Event, command, opens, delivers, session, power, plays, run, along, bookLine, plainIn, bookAccount, lineBy, booksOf}
 use Rattle.demands.specs.Laws.Names.{Other, by-name, purse-other, journal-other, book-other}
 use Rattle.demands.specs.Laws.Sound.{Sound, changed-sound, ended-sound, session-sound}
-use Rattle.demands.specs.Laws.Steps.{accepted-cleared, plays, moves}
+use Rattle.demands.specs.Laws.Steps.{accepted-cleared, moves}
 use Rattle.demands.specs.Laws.Inside.{Cleared, entry-room}
 use Rattle.demands.specs.Laws.Chained.{opening-announces, opening-sound, carried, delivered-sound}
 use Rattle.demands.specs.Laws.Induct.{Moved, from-rest, flat-part}
@@ -33,7 +33,7 @@ pub record Open (s : State) (tx : List Op) : Type 0 where
   pub value : OpenPurse (s .core .purse) tx
   pub entries : OpenLog (s .core .journal) tx
 
-abbrev Goes : State → List Op → State → Line Op → Type 0
+abbrev pub Goes : State → List Op → State → Line Op → Type 0
 Goes = Moved moves (lineBy bookAccount) booksOf balance Open
 
 -- ---- an accepted command
@@ -86,7 +86,7 @@ goes-judged s tx h status p l go = by (eqb status ok) refl
 idles : (s d : State) (tx : List Op) → Open s tx → Sound d → d .core .purse ≡ s .core .purse → d .core .journal ≡ s .core .journal → Goes s tx d idle
 idles s d tx h k p j = (rw (p, j) refl, record { sound = k; value = rw p (h .value); entries = rw j (h .entries) })
 
-goes : (s : State) (tx : List Op) → Open s tx → (e : Event) → Goes s tx (moves s e) (lineBy bookAccount s e)
+pub goes : (s : State) (tx : List Op) → Open s tx → (e : Event) → Goes s tx (moves s e) (lineBy bookAccount s e)
 unfolding plays lineBy
 goes s tx h (command f u handed) = unfold played in goes-judged s tx h (statusOf (s .core) f) (accepted s u (insOf f) (dataOf f)) _ (λ e. unfold accepted acceptedPlain in goes-changed s u handed tx (plainIn (s .core) f) h (insOf f) (accepted-cleared s f (eq-eqb _ _ e)))
 goes s tx h (opens f) = unfold openingPlayed in goes-judged s tx h (openingStatus (s .core) f) (opening s (dataOf f)) _ (λ e. idles s (opening s (dataOf f) .state) tx h (opening-sound s _ (h .sound) (opening-announces (s .core) f e)) (unfold opening in refl) (unfold opening in refl))

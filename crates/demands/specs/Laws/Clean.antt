@@ -20,9 +20,9 @@ use Rattle.frames.specs.Frame.{insOf, dataOf}
 use Rattle.rows.specs.Rows.{ok, statusOf, openingStatus, bytesStatus}
 use Rattle.card.specs.View.{view}
 use Rattle.card.specs.Events.{channelAfter, changed, Played, ended, refused, acceptedPlain, accepted, judged, played, opening, openingPlayed, delivered, bytesPlayed, withSession, issued}
-use Rattle.demands.specs.History.{Event, command, opens, delivers, session, power, run}
+use Rattle.demands.specs.History.{Event, command, opens, delivers, session, power, plays, run}
 use Rattle.demands.specs.Demands.{Taken, Clean, reached}
-use Rattle.demands.specs.Laws.Steps.{plays, moves, view-run}
+use Rattle.demands.specs.Laws.Steps.{moves, view-run}
 use Rattle.demands.specs.Laws.Issued.{issued-kept}
 
 bare-clean : (g : Stage) → Clean (bare g)

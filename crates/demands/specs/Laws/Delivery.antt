@@ -28,13 +28,13 @@ use Rattle.card.specs.Outcome.{Outcome}
 use Rattle.card.specs.Events.{laidInto, opening, openingPlayed, delivered, bytesPlayed}
 use Rattle.card.specs.Laws.{judged-accepted}
 use Rattle.demands.specs.Strike.{flat}
-use Rattle.demands.specs.History.{Event, opens, delivers, outcome, next, run, along}
+use Rattle.demands.specs.History.{Event, opens, delivers, outcome, next, plays, run, along}
 use Rattle.demands.specs.Demands.{Kept}
 use Rattle.demands.specs.Chains.{FrameSizes, delivery, heard}
 use Rattle.demands.specs.Laws.Sound.{Sized}
 use Rattle.demands.specs.Laws.Chained.{Carried, Ranged, ranged, bytes-room}
 use Rattle.demands.specs.Laws.Filed.{by-file}
-use Rattle.demands.specs.Laws.Steps.{sound-view, plays, outcome-plays, next-kept}
+use Rattle.demands.specs.Laws.Steps.{sound-view, outcome-plays, next-kept}
 
 -- ---- one event on a card
 
@@ -55,28 +55,29 @@ given c x =
     }
 
 module _ (c : Card) (h : Kept c) where
-  pub opens-card : (f : List ℕ) → openingStatus (view c .core) f ≡ ok → outcome c (opens f) ≡ record { card = chainOn c (announced (dataOf f)); refusal = 0; out = [] }
+  pub opens-card : (f : List ℕ) → openingStatus (view c .core) f ≡ ok → outcome c (opens f) ≡ record { card = chainOn c (announced (dataOf f)); refusal = 0; stored = 0; out = [] }
   opens-card f e = outcome-plays c h (opens f) ∙ taken ∙ laid-in
     where
       taken : laidInto c (plays (view c) (opens f)) ≡ laidInto c (opening (view c) (dataOf f))
       taken = unfold plays openingPlayed in sym (judged-accepted c (openingStatus (view c .core) f) (opening (view c) (dataOf f)) e)
 
-      laid-in : laidInto c (opening (view c) (dataOf f)) ≡ record { card = chainOn c (announced (dataOf f)); refusal = 0; out = [] }
+      laid-in : laidInto c (opening (view c) (dataOf f)) ≡ record { card = chainOn c (announced (dataOf f)); refusal = 0; stored = 0; out = [] }
       laid-in = unfold laidInto opening put view chainOn in
-          ap (λ (l : Log). record { card = record { settings = c .settings; keys = c .keys; files = c .files; purse = c .purse; log = l; channel = chained (c .channel) (announced (dataOf f)) }; refusal = 0; out = [] }) (logbook.put-view (c .log))
+          ap (λ (l : Log). record { card = record { settings = c .settings; keys = c .keys; files = c .files; purse = c .purse; log = l; channel = chained (c .channel) (announced (dataOf f)) }; refusal = 0; stored = 0; out = [] }) (logbook.put-view (c .log))
 
   pub delivers-card : (b : List ℕ) → bytesStatus (c .channel .chain) b ≡ ok
-      → outcome c (delivers b) ≡ record { card = given c b; refusal = 0; out = pick (completes (c .channel .chain) (length b)) (word ok) [] }
+      → outcome c (delivers b) ≡ record { card = given c b; refusal = 0; stored = 0; out = pick (completes (c .channel .chain) (length b)) (word ok) [] }
   delivers-card b e = outcome-plays c h (delivers b) ∙ taken ∙ laid-in
     where
       taken : laidInto c (plays (view c) (delivers b)) ≡ laidInto c (delivered (view c) b)
       taken = unfold plays bytesPlayed view in sym (judged-accepted c (bytesStatus (c .channel .chain) b) (delivered (view c) b) e)
 
-      laid-in : laidInto c (delivered (view c) b) ≡ record { card = given c b; refusal = 0; out = pick (completes (c .channel .chain) (length b)) (word ok) [] }
+      laid-in : laidInto c (delivered (view c) b) ≡ record { card = given c b; refusal = 0; stored = 0; out = pick (completes (c .channel .chain) (length b)) (word ok) [] }
       laid-in = unfold laidInto delivered put view given in
           ap (λ (l : Log). record {
             card = record { settings = c .settings; keys = c .keys; files = written (c .files) (c .channel .chain .file) (nextPlace (c .channel .chain)) b; purse = c .purse; log = l; channel = advanced (c .channel) (length b) };
             refusal = 0;
+            stored = 0;
             out = pick (completes (c .channel .chain) (length b)) (word ok) [];
           }) (logbook.put-view (c .log))
 

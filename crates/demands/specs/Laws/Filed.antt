@@ -19,9 +19,9 @@ use Rattle.effects.specs.Effects.{filesAfter}
 use Rattle.card.specs.Events.{changed, ended, Played, refused, acceptedPlain, accepted, judged, played, opening, openingPlayed, delivered, bytesPlayed, withSession}
 use Rattle.demands.specs.Strike.{Line, posted, broken, idle, posts, through}
 use Rattle.demands.specs.DataFiles.{Write, stored}
-use Rattle.demands.specs.History.{Event, command, opens, delivers, session, power, run, along, fileLine, plainIn, writeOf, fileAccount, lineBy}
+use Rattle.demands.specs.History.{Event, command, opens, delivers, session, power, plays, run, along, fileLine, plainIn, writeOf, fileAccount, lineBy}
 use Rattle.demands.specs.Laws.Sound.{Sound, Sized}
-use Rattle.demands.specs.Laws.Steps.{accepted-cleared, plays, moves, moves-sound}
+use Rattle.demands.specs.Laws.Steps.{accepted-cleared, moves, moves-sound}
 use Rattle.demands.specs.Laws.Inside.{Cleared, write-room}
 use Rattle.demands.specs.Laws.Chained.{carried, ranged, bytes-room}
 

@@ -11,6 +11,7 @@ use Rattle.datafiles.specs.Files as files
 use Rattle.limits.specs.Limits.{crossed, within}
 use Rattle.purse.specs.Purse as purse
 use Rattle.standing.specs.Laws as rules-laws
+use Rattle.logbook.specs.Ring as ring
 use Rattle.logbook.specs.View as log
 use Rattle.logbook.specs.Journal as journal
 use Rattle.logbook.specs.Laws as logbook
@@ -55,5 +56,5 @@ module _ (s : Settings) (ks : Keys) (v : ℤ) (e : Taken s v) where
   issued-open = record { sound = sound-view (issued s ks v) issued-kept; value = purse-rests v 0; entries = rw logbook.view-empty (log-rests []) }
 
   pub issued-books : booksOf (view (issued s ks v)) ≡ record { value = v; allowance = 0; log = [] }
-  unfolding view issued purse.resting log.view log.empty log.cut
+  unfolding view issued purse.resting log.view log.empty ring.ringed
   issued-books = refl

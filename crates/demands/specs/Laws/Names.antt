@@ -5,11 +5,11 @@ use mathlib.Core.Bool.{Bool, true, false}
 use mathlib.Core.Path.{_≡_, refl, sym, subst}
 use borrow.Author.Tests.{eqb-true}
 use lib.Dec.{eqb}
-use Rattle.tables.specs.Choice.{pick}
+use Rattle.tables.specs.Choice.{pick, passed}
 use Rattle.purse.specs.declared.Purse.{Purse}
 use Rattle.logbook.specs.Journal.{Journal}
 use Rattle.columns.specs.Table.{credit, debit, limitedCredit, writeRecord, clearRecordFile, commitTransaction, abortTransaction}
-use Rattle.effects.specs.Effects.{purseAfter, journalAfter}
+use Rattle.effects.specs.Effects.{purseAfter, journalAfter, storedAfter}
 use Rattle.demands.specs.Strike.{idle}
 use Rattle.demands.specs.History.{bookLine}
 
@@ -56,3 +56,8 @@ module _ (i : ℕ) (d : List ℕ) where
   pub book-other : Other i → bookLine i d ≡ idle
   unfolding bookLine pick
   book-other o = simp (o .no-credit, o .no-debit, o .no-rebook, o .no-entry, o .no-clear, o .no-commit, o .no-abort)
+
+-- and stores no slot byte
+pub stored-other : (i : ℕ) (j : Journal) → Other i → storedAfter i j ≡ 0
+unfolding storedAfter
+stored-other i j o = passed _ _ (o .no-commit)

@@ -13,7 +13,6 @@ use Rattle.purse.specs.declared.Purse.{Purse}
 use Rattle.purse.specs.Purse as purse
 use Rattle.logbook.specs.Journal.{Journal}
 use Rattle.logbook.specs.Journal as journal
-use Rattle.logbook.specs.View as log
 use Rattle.logbook.specs.Fit.{Fit}
 use Rattle.demands.specs.Books.{Op, paid-in, paid-out, rebooked, entered, cleared, outflow, inflow, isDebit, isRebooking, isEntry, isClear, sum, some, valueAfter, allowanceAfter, overwritten}
 use Rattle.demands.specs.Laws.Sound.{fresh-sized}
@@ -60,15 +59,15 @@ module _ (p : Purse) (tx : List Op) (h : OpenPurse p tx) where
 
 pub record OpenLog (j : Journal) (tx : List Op) : Type 0 where
   pub clears : j .clears ≡ some isClear tx
-  pub adds : some isClear tx ≡ false → log.some (j .fresh) ≡ some isEntry tx
+  pub adds : some isClear tx ≡ false → journal.some (j .fresh) ≡ some isEntry tx
   pub entry : some isClear tx ≡ false → journal.freshOr journal.blank (j .fresh) ≡ overwritten (replicate 16 0) tx
 
 pub log-rests : (es : List (List ℕ)) → OpenLog (journal.resting es) []
-unfolding journal.resting journal.freshOr journal.blank log.some some overwritten
+unfolding journal.resting journal.freshOr journal.blank journal.some some overwritten
 log-rests es = record { clears = refl; adds = λ _. refl; entry = λ _. refl }
 
-pushed-one : (fs es : List (List ℕ)) → journal.pushed fs es ≡ pick (log.some fs) (take 4 (journal.freshOr journal.blank fs ∷ es)) es
-unfolding journal.pushed journal.freshOr log.some pick
+pushed-one : (fs es : List (List ℕ)) → journal.pushed fs es ≡ pick (journal.some fs) (take 4 (journal.freshOr journal.blank fs ∷ es)) es
+unfolding journal.pushed journal.freshOr journal.some pick
 pushed-one [] es = refl
 pushed-one (f ∷ fs) es = refl
 
@@ -86,7 +85,7 @@ module _ (j : Journal) (tx : List Op) (h : OpenLog j tx) where
   log-rebooked n = record { clears = simp one-more (h .clears); adds = simp one-more (h .adds); entry = simp one-more (h .entry) }
 
   pub log-entered : Fit j → (at : ℕ) (bytes : List ℕ) → at + length bytes ≤ 16 → OpenLog (journal.written j at bytes) (tx ++ (entered at bytes ∷ []))
-  unfolding overwritten journal.written journal.freshOr log.some
+  unfolding overwritten journal.written journal.freshOr journal.some
   log-entered f at bytes room =
       let sized = fresh-sized journal.blank (j .fresh) (unfold journal.blank in refl) (f .fresh-sized) in
       let e : laidIn (journal.freshOr journal.blank (j .fresh)) at bytes ≡ laid (journal.freshOr journal.blank (j .fresh)) at bytes = laid-room _ at bytes (omega arith) in

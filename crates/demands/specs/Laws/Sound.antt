@@ -17,7 +17,6 @@ use Rattle.purse.specs.declared.Purse.{Purse}
 use Rattle.standing.specs.Laws as rules-laws
 use Rattle.logbook.specs.Journal.{Journal}
 use Rattle.logbook.specs.Journal as journal
-use Rattle.logbook.specs.View as log
 use Rattle.logbook.specs.Fit.{Fit, Sixteens}
 use Rattle.logbook.specs.FitLaws.{fit-written, fit-cleared, fit-settled, fit-dropped}
 use Rattle.access.specs.declared.Session.{Session}
@@ -61,7 +60,7 @@ pub record Fitting (k : Channel) : Type 0 where
 
 -- a new entry and a clear are never pending together
 abbrev pub both : Journal → Bool
-both j = log.some (j .fresh) && j .clears
+both j = journal.some (j .fresh) && j .clears
 
 pub record Sound (s : State) : Type 0 where
   pub rights : rightsBroken (s .core .settings) ≡ false
@@ -81,7 +80,7 @@ log-pends {l} {p} h = record { value = h .value; pending = h .pending; allowance
 module _ (c : Core) (d : List ℕ) where
   figures-kept : rules-laws.Sound (c .settings .limits) (c .purse) (logPending (c .journal)) → (i : ℕ) → Cleared c i d
       → rules-laws.Sound (c .settings .limits) (purseAfter i d (c .purse)) (logPending (journalAfter i d (c .journal)))
-  unfolding purseAfter journalAfter pick logPending journal.written journal.cleared log.some
+  unfolding purseAfter journalAfter pick logPending journal.written journal.cleared journal.some
   figures-kept h =
       by-name (λ i. Cleared c i d → rules-laws.Sound (c .settings .limits) (purseAfter i d (c .purse)) (logPending (journalAfter i d (c .journal))))
       (λ e. rules-laws.credited-sound _ h _ (credit-inside _ _ _ d (e .inside)))
@@ -104,7 +103,7 @@ module _ (c : Core) (d : List ℕ) where
   no-clear-pending e = e .on
 
   apart-kept : both (c .journal) ≡ false → (i : ℕ) → Cleared c i d → both (journalAfter i d (c .journal)) ≡ false
-  unfolding journalAfter pick journal.written journal.cleared journal.settled journal.dropped journal.resting log.some
+  unfolding journalAfter pick journal.written journal.cleared journal.settled journal.dropped journal.resting journal.some
   apart-kept h =
       by-name (λ i. Cleared c i d → both (journalAfter i d (c .journal)) ≡ false)
       (λ e. h) (λ e. h) (λ e. h) no-clear-pending (λ e. refl) (λ e. refl) (λ e. refl)
@@ -194,7 +193,7 @@ changed-sound s u i d handed h e =
     }
 
 pub ended-sound : (s : State) → Sound s → Sound (ended s)
-unfolding ended journal.dropped journal.resting log.some
+unfolding ended journal.dropped journal.resting journal.some
 ended-sound s h =
     record {
       rights = h .rights;

@@ -1,32 +1,32 @@
 -- The same history on cards and on the states that they stand for.
-use Prim.Native.Nat.{ℕ}
+use Prim.Native.Nat.{ℕ, zero, suc, _<_}
 use mathlib.Core.Bool.{Bool, true, false}
 use mathlib.Core.List.{List, [], _∷_}
 use mathlib.Core.Path.{_≡_, refl, sym, _∙_, ap}
 use native.Mathlib.Omega.{arith}
-use borrow.Author.Tests.{not-false, le-ltb, eq-eqb, eqb-true}
-use lib.Dec.{eqb, ltb}
+use borrow.Author.Tests.{not-false, lt-ltb, le-ltb, eq-eqb, eqb-true}
+use lib.Dec.{eqb}
 use lib.ListN.{length}
 use Rattle.tables.specs.Choice.{pick, pick-cases, passed, not-no, or-no, or-none}
-use Rattle.wire.specs.Laws.{length-laid}
 use Rattle.standing.specs.Laws as rules-laws
 use Rattle.logbook.specs.declared.Log.{Log}
 use Rattle.logbook.specs.Journal.{Journal}
 use Rattle.logbook.specs.Journal as journal
 use Rattle.logbook.specs.View as log
 use Rattle.logbook.specs.Laws as logbook
-use Rattle.logbook.specs.FitLaws.{fit-view, joined-room}
+use Rattle.logbook.specs.Entries.{length-round}
+use Rattle.logbook.specs.FitLaws.{fit-view}
 use Rattle.rows.specs.State.{State, logPending}
 use Rattle.rows.specs.Rows.{ok, statusOf, openingStatus, bytesStatus}
 use Rattle.rows.specs.Laws.{command-ok}
 use Rattle.card.specs.declared.Card.{Card}
 use Rattle.card.specs.View.{view, put}
-use Rattle.standing.specs.Parts.{logBroken, chainBroken, log-few, parted, joined}
+use Rattle.standing.specs.Parts.{logBroken, chainBroken, log-few, log-placed, log-apart, parted, joined}
 use Rattle.card.specs.Outcome.{Outcome}
-use Rattle.card.specs.Events.{Played, ended, refused, acceptedPlain, accepted, judged, played, laidInto, opening, openingPlayed, chainOpened, delivered, bytesPlayed, bytesSent, withSession, sessionChanged, poweredUp}
+use Rattle.card.specs.Events.{Played, refused, acceptedPlain, accepted, judged, played, laidInto, opening, openingPlayed, chainOpened, delivered, bytesPlayed, bytesSent, sessionChanged, poweredUp}
 use Rattle.commands.specs.PlacesLaws.{pending-view}
-use Rattle.card.specs.Laws.{bench-plays, command-plays}
-use Rattle.demands.specs.History.{Handed, Event, command, opens, delivers, session, power, outcome, next, run, along, plainIn}
+use Rattle.card.specs.Laws.{log-unbroken, bench-plays, command-plays}
+use Rattle.demands.specs.History.{Handed, Event, command, opens, delivers, session, power, outcome, next, plays, run, along, plainIn}
 use Rattle.demands.specs.Demands.{Kept}
 use Rattle.demands.specs.Laws.Sound.{Sound, fresh-sized, changed-sound, ended-sound, session-sound}
 use Rattle.demands.specs.Laws.Inside.{Cleared, cleared}
@@ -36,11 +36,11 @@ use Rattle.frames.specs.Frame.{insOf, dataOf}
 
 -- ---- a card that keeps the rules stands for a sound state
 
-some-view : (l : Log) → log.some (log.view l .fresh) ≡ l .adds
-unfolding log.view log.some pick
+some-view : (l : Log) → journal.some (log.view l .fresh) ≡ l .adds
+unfolding log.view journal.some pick
 some-view l = by (l .adds)
   where
-    by : (b : Bool) → log.some (pick b (l .entry ∷ []) []) ≡ b
+    by : (b : Bool) → journal.some (pick b (l .entry ∷ []) []) ≡ b
     by true = refl
     by false = refl
 
@@ -55,40 +55,38 @@ sound-view c h =
       channel = record { known = not-false _ (n .1 .1 .0); secret = h .secret; ti = h .ti; caps = h .caps; chain = not-false _ (chain .0); free = chain .1 };
       figures = rw (pending-view (c .log)) (rules-laws.sound (n .1 .1 .1 .1 .0));
       journal = fit-view (c .log) (log-few (c .log) (n .1 .1 .1 .0)) (h .slots) (h .entry);
-      apart = rw (some-view (c .log)) (or-no (ltb 4 (c .log .count)) _ (n .1 .1 .1 .0) .1);
+      apart = rw (some-view (c .log)) (log-apart (c .log) (n .1 .1 .1 .0));
       files = record { f00 = h .f00; f04 = h .f04; f1f = h .f1f };
     }
 
+-- a place that turns stays one of four
+turned-four : (n p : ℕ) → p < 4 → log.turned n p < 4
+turned-four zero p h = h
+turned-four (suc n) p h = omega arith
+
 -- a sound state, laid into a card, is a card that keeps the rules and stands for that state
 
-pub put-kept : (c : Card) (s : State) → Kept c → Sound s → Kept (put c s)
+pub put-kept : (c : Card) (n : ℕ) (s : State) → Kept c → Sound s → Kept (put c n s)
 unfolding put log.put logBroken logPending chainBroken
-put-kept c s k h =
-    let room = joined-room (s .core .journal) (h .journal) in
+put-kept c n s k h =
+    let placed = turned-four n (c .log .place) (log-placed (c .log) (log-unbroken c (k .rules))) in
     record {
-      rules = joined _ _ _ _ _ (h .rights, (h .limits, (not-no _ (h .channel .known), (or-none _ _ (le-ltb 4 (length (s .core .journal .entries)) (h .journal .few)) (h .apart), (rules-laws.unbroken (h .figures), (or-none _ _ (not-no _ (h .channel .chain)) (h .channel .free), tt))))));
+      rules = joined _ _ _ _ _ (h .rights, (h .limits, (not-no _ (h .channel .known), (or-none _ _ (or-none _ _ (le-ltb 4 (length (s .core .journal .entries)) (h .journal .few)) (not-no _ (lt-ltb _ _ placed))) (h .apart), (rules-laws.unbroken (h .figures), (or-none _ _ (not-no _ (h .channel .chain)) (h .channel .free), tt))))));
       f00 = h .files .f00;
       f04 = h .files .f04;
       f1f = h .files .f1f;
-      slots = length-laid (c .log .slots) 0 (journal.joined (s .core .journal .entries)) (omega (arith, k .slots)) ∙ k .slots;
+      slots = length-round (c .log .slots) (log.turned n (c .log .place)) (s .core .journal .entries) (h .journal .sized) (k .slots);
       entry = fresh-sized (c .log .entry) (s .core .journal .fresh) (k .entry) (h .journal .fresh-sized);
       secret = h .channel .secret;
       ti = h .channel .ti;
       caps = h .channel .caps;
     }
 
-pub view-put : (c : Card) (s : State) → Sound s → view (put c s) ≡ s
+pub view-put : (c : Card) (n : ℕ) (s : State) → Kept c → Sound s → view (put c n s) ≡ s
 unfolding view put
-view-put c s h = ap (λ (j : Journal). record { core = record { settings = s .core .settings; keys = s .core .keys; purse = s .core .purse; journal = j; channel = s .core .channel }; files = s .files }) (logbook.view-put (c .log) (s .core .journal) (h .journal))
+view-put c n s k h = ap (λ (j : Journal). record { core = record { settings = s .core .settings; keys = s .core .keys; purse = s .core .purse; journal = j; channel = s .core .channel }; files = s .files }) (logbook.view-put (c .log) n (s .core .journal) (k .slots) (h .journal))
 
 -- ---- an event on a state
-
-unfoldable pub plays : State → Event → Played
-plays s (command f u handed) = played s u f
-plays s (opens f) = openingPlayed s f
-plays s (delivers b) = bytesPlayed s b
-plays s (session k known) = record { state = withSession s k; out = [] }
-plays s power = record { state = ended s; out = [] }
 
 abbrev pub moves : State → Event → State
 moves s e = plays s e .state
@@ -124,15 +122,15 @@ moves-sound s power h = ended-sound s h
 
 -- ---- on the card
 
-next-put : (c : Card) → Kept c → (e : Event) → next c e ≡ put c (moves (view c) e)
+next-put : (c : Card) → Kept c → (e : Event) → next c e ≡ put c (plays (view c) e .stored) (moves (view c) e)
 unfolding laidInto
 next-put c h e = ap (λ (o : Outcome). o .card) (outcome-plays c h e)
 
 pub next-kept : (c : Card) → Kept c → (e : Event) → Kept (next c e)
-next-kept c h e = rw (next-put c h e) (put-kept c (moves (view c) e) h (moves-sound (view c) e (sound-view c h)))
+next-kept c h e = rw (next-put c h e) (put-kept c (plays (view c) e .stored) (moves (view c) e) h (moves-sound (view c) e (sound-view c h)))
 
 pub view-next : (c : Card) → Kept c → (e : Event) → view (next c e) ≡ moves (view c) e
-view-next c h e = ap view (next-put c h e) ∙ view-put c (moves (view c) e) (moves-sound (view c) e (sound-view c h))
+view-next c h e = ap view (next-put c h e) ∙ view-put c (plays (view c) e .stored) (moves (view c) e) h (moves-sound (view c) e (sound-view c h))
 
 -- ---- and a history
 

@@ -27,6 +27,7 @@ use Rattle.rows.specs.State.{Core, logPending}
 use Rattle.modes.specs.Modes.{accessFor, macedUnder, plainOf, macOf}
 use Rattle.rows.specs.Rows.{unknownCommand, interrupts, sentOf, lengthCases, wrongLength, lacksMac, unknownFile, otherKindOrNever, notGranted, partFails, forged, usedUp, switchedOff, badParameter, outside, longRead, nothingPending, macedIn, rowsUnder, rowsFor, ok, statusFor, statusOf}
 use Rattle.rows.specs.Laws.{clear}
+use Rattle.effects.specs.Effects.{storedAfter}
 use Rattle.card.specs.declared.Card.{Card}
 use Rattle.card.specs.View.{view, put, broken, onChannel}
 use Rattle.card.specs.Outcome.{Outcome}
@@ -250,11 +251,11 @@ module _ (c : Card) (k n : ℕ) (h : Kept c) (eg : c .channel .stage ≡ Real k 
     abbrev shownData : List ℕ
     shownData = baseShown (view c) ins field
 
-    maced-sends : sends c frame u ≡ laidInto c (record { state = changed (view c) u ins field; out = shownData ++ (macBehind true (counted (c .channel)) shownData ++ word ok) })
+    maced-sends : sends c frame u ≡ laidInto c (record { state = changed (view c) u ins field; stored = storedAfter ins (view c .core .journal); out = shownData ++ (macBehind true (counted (c .channel)) shownData ++ word ok) })
     maced-sends =
         let plays : accepted (view c) u (insOf frame) (dataOf frame) ≡ acceptedPlain true (view c) u ins field = unfold accepted in rw (maced-sent .ins, maced-sent .field, in-mode, plain (c .settings) (c .keys) (c .purse) (log.view (c .log)) (c .channel .secret) (c .channel .ti) (c .channel .caps) (c .channel .chain) k n f frame ins field plain-sent maced-sent mode) refl in
         sym (command-plays c frame u 258 (omega arith) (h .rules)) ∙ sym (plays-accepted c frame u e)
-        ∙ ap (laidInto c) (plays ∙ sym (unfold view in base-accepted ins first-not second-not true (view c) u field))
+        ∙ ap (laidInto c) (plays ∙ sym (unfold view in base-accepted ins first-not second-not true (view c) u field refl))
 
     bench-plain : macedIn (view (onBench c k) .core) ins field ≡ false
     unfolding view onChannel bare chained macedUnder
@@ -264,11 +265,11 @@ module _ (c : Card) (k n : ℕ) (h : Kept c) (eg : c .channel .stage ≡ Real k 
     unfolding accepted plainOf pick
     bench-plays = rw bench-plain refl
 
-    bench-out : record { state = changed (view (onBench c k)) u ins field; out = baseShown (view (onBench c k)) ins field ++ word ok } ≡ acceptedPlain false (view (onBench c k)) u ins field
+    bench-out : record { state = changed (view (onBench c k)) u ins field; stored = storedAfter ins (view (onBench c k) .core .journal); out = baseShown (view (onBench c k)) ins field ++ word ok } ≡ acceptedPlain false (view (onBench c k)) u ins field
     unfolding macBehind pick
-    bench-out = base-accepted ins first-not second-not false (view (onBench c k)) u field
+    bench-out = base-accepted ins first-not second-not false (view (onBench c k)) u field refl
 
-    plain-sends : sends (onBench c k) f u ≡ laidInto (onBench c k) (record { state = changed (view (onBench c k)) u ins field; out = baseShown (view (onBench c k)) ins field ++ word ok })
+    plain-sends : sends (onBench c k) f u ≡ laidInto (onBench c k) (record { state = changed (view (onBench c k)) u ins field; stored = storedAfter ins (view (onBench c k) .core .journal); out = baseShown (view (onBench c k)) ins field ++ word ok })
     plain-sends =
         sym (command-plays (onBench c k) f u 258 (omega arith) bench-kept) ∙ sym (plays-accepted (onBench c k) f u (accepted-alike .0 e .0)) ∙ ap (laidInto (onBench c k)) (sym (bench-out ∙ bench-plays))
 

@@ -32,14 +32,14 @@ use Rattle.demands.specs.Laws.Room.{reply-room}
 use Rattle.demands.specs.Laws.Sound.{ended-sound}
 use Rattle.demands.specs.Laws.Steps.{sound-view, view-put}
 
-pub ended-untouched : (c : Card) → Kept c → Untouched c (put c (ended (view c)))
-unfolding put ended view purse.dropped purse.resting journal.dropped journal.resting log.put log.some
+pub ended-untouched : (c : Card) → Kept c → Untouched c (put c 0 (ended (view c)))
+unfolding put ended view purse.dropped purse.resting journal.dropped journal.resting log.put journal.some
 ended-untouched c h =
     record {
       settings = refl;
       keys = refl;
       files = refl;
-      books = ap booksOf (view-put c (ended (view c)) (ended-sound (view c) (sound-view c h)));
+      books = ap booksOf (view-put c 0 (ended (view c)) h (ended-sound (view c) (sound-view c h)));
       no-session = refl;
       value-rests = refl;
       pending-value = refl;

@@ -24,16 +24,16 @@ use Rattle.card.specs.Events.{changed, Played, ended, refused, acceptedPlain, a
 use Rattle.demands.specs.Strike.{Line, posts, through}
 use Rattle.demands.specs.Books.{booked}
 use Rattle.demands.specs.DataFiles.{Write, filed, stored}
-use Rattle.demands.specs.History.{Event, command, opens, delivers, session, power, next, Said, said, run, along, Account, bookAccount, fileAccount, lineBy, traced, booksOf}
+use Rattle.demands.specs.History.{Event, command, opens, delivers, session, power, next, plays, Said, said, run, along, Account, bookAccount, fileAccount, lineBy, traced, booksOf}
 use Rattle.demands.specs.Demands.{Kept, Taken, reached, Demand3, EqualReplies}
-use Rattle.demands.specs.Laws.Steps.{sound-view, plays, moves, outcome-plays, next-kept, view-next, run-kept, view-run, along-views}
+use Rattle.demands.specs.Laws.Steps.{sound-view, moves, outcome-plays, next-kept, view-next, run-kept, view-run, along-views}
 use Rattle.demands.specs.Laws.Booked.{books-law}
 use Rattle.demands.specs.Laws.Filed.{files-law}
 use Rattle.demands.specs.Laws.Issued.{issued-kept, issued-open, issued-books}
 
 -- ---- a history's lines on the card are those on the state
 
-lines-view : {X : Type 0} (a : Account X) (c : Card) → Kept c → (es : List Event) → traced a c es ≡ along moves (lineBy a) (view c) es
+pub lines-view : {X : Type 0} (a : Account X) (c : Card) → Kept c → (es : List Event) → traced a c es ≡ along moves (lineBy a) (view c) es
 unfolding traced
 lines-view a c h es = along-views (λ c e. lineBy a (view c) e) (lineBy a) (λ c h e. refl) c h es
 
@@ -106,10 +106,10 @@ demand3 s ks v t es =
 -- ---- equal replies
 
 -- what is seen of an event on a state
-abbrev saidOn : State → Event → Said
+abbrev pub saidOn : State → Event → Said
 saidOn s e = record { refusal = 0; bytes = plays s e .out; len = length (plays s e .out) }
 
-said-view : (c : Card) → Kept c → (e : Event) → said c e ≡ saidOn (view c) e
+pub said-view : (c : Card) → Kept c → (e : Event) → said c e ≡ saidOn (view c) e
 unfolding said laidInto replyOf
 said-view c h e = ap (λ (o : Outcome). record { refusal = o .refusal; bytes = o .out; len = replyOf o .len }) (outcome-plays c h e)
 

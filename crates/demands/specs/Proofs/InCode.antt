@@ -21,10 +21,10 @@ use Rattle.card.specs.declared.Reply.{Reply}
 use Rattle.card.specs.Outcome.{Outcome, replyOf, Answered, bench}
 use Rattle.card.specs.Events.{Played, laidInto, benched, commanded, chainOpened, bytesSent, sessionChanged, poweredUp, issued, personalised}
 use Rattle.card.specs.Laws.{answered-as, bench-plays, session-unknown}
-use Rattle.demands.specs.History.{Handed, Event, command, opens, delivers, session, power, outcome, next, Said, said, run, along}
+use Rattle.demands.specs.History.{Handed, Event, command, opens, delivers, session, power, outcome, next, plays, Said, said, run, along}
 use Rattle.demands.specs.Demands.{Kept, Taken, Unrefused, InCode}
 use Rattle.demands.specs.Calls.{seen, Ran, done, commands, openings, frames, changes, powers, short, short-opening, short-frame, unknown}
-use Rattle.demands.specs.Laws.Steps.{plays, outcome-plays, next-kept}
+use Rattle.demands.specs.Laws.Steps.{outcome-plays, next-kept}
 use Rattle.demands.specs.Laws.Issued.{issued-kept}
 use Rattle.demands.specs.Proofs.Demand1.{demand1, opening-replies, frame-replies}
 

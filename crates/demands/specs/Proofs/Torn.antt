@@ -24,13 +24,13 @@ use Rattle.card.specs.Events.{ended, Played, refused, judged, played, openingPl
 use Rattle.card.specs.Laws.{judged-refused}
 use Rattle.frames.specs.Frame as frame
 use Rattle.demands.specs.Strike.{flat}
-use Rattle.demands.specs.History.{Event, command, opens, delivers, session, power, outcome, next, run, booksOf}
+use Rattle.demands.specs.History.{Event, command, opens, delivers, session, power, outcome, next, plays, run, booksOf}
 use Rattle.demands.specs.Demands.{Kept, Untouched}
 use Rattle.demands.specs.Chains.{FrameSizes, delivery, Ends, Torn, Tears}
 use Rattle.demands.specs.Laws.Sound.{Sized}
 use Rattle.demands.specs.Laws.Chained.{Announced, opening-announces}
 use Rattle.demands.specs.Laws.Filed.{by-file}
-use Rattle.demands.specs.Laws.Steps.{sound-view, view-next, plays, moves, outcome-plays, next-kept, run-kept}
+use Rattle.demands.specs.Laws.Steps.{sound-view, view-next, moves, outcome-plays, next-kept, run-kept}
 use Rattle.demands.specs.Laws.Delivery.{chainOn, given, opens-card, runs-given}
 use Rattle.demands.specs.Proofs.Demand1.{ended-untouched}
 
@@ -75,7 +75,7 @@ pub record Stays (before after : Card) : Type 0 where
   pub chain : after .channel .chain ≡ unchained
 
 -- where the card is left as a refusal and a power-up leave it
-stays-ended : (c k : Card) → Kept c → k ≡ put c (ended (view c)) → Stays c k
+stays-ended : (c k : Card) → Kept c → k ≡ put c 0 (ended (view c)) → Stays c k
 unfolding bare
 stays-ended c k h e =
     let u = ended-untouched c h in

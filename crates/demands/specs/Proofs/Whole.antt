@@ -26,7 +26,7 @@ use Rattle.modes.specs.Modes.{accessFor, macedUnder, plainOf}
 use Rattle.rows.specs.State.{Core}
 use Rattle.rows.specs.Rows.{unknownCommand, sentOf, lengthCases, wrongLength, lacksMac, unknownFile, otherKindOrNever, notGranted, partFails, forged, usedUp, parameterCases, badParameter, ranged, roomOf, outside, longRead, rowsFor, ok, statusFor, macedIn, statusOf, openingStatus, commandStatus}
 use Rattle.rows.specs.Laws.{command-ok, command-clear, no-chain}
-use Rattle.effects.specs.Effects.{purseAfter, journalAfter, filesAfter}
+use Rattle.effects.specs.Effects.{purseAfter, journalAfter, storedAfter, filesAfter}
 use Rattle.replies.specs.Replies.{shownOf}
 use Rattle.card.specs.declared.Card.{Card}
 use Rattle.card.specs.View.{view, put}
@@ -186,8 +186,8 @@ module _ (c : Card) (h : Kept c) (f : List ℕ) (ei : insOf f ≡ writeData) (pl
       let q = opening-sent .field in
       rw (q, same-file d s, same-offset d s, same-length d s) refl
 
-  opened : outcome c (opens g) ≡ record { card = chainOn c k; refusal = 0; out = [] }
-  opened = opens-card c h g opening-accepted ∙ ap (λ (x : Chain). record { card = chainOn c x; refusal = 0; out = [] }) announces
+  opened : outcome c (opens g) ≡ record { card = chainOn c k; refusal = 0; stored = 0; out = [] }
+  opened = opens-card c h g opening-accepted ∙ ap (λ (x : Chain). record { card = chainOn c x; refusal = 0; stored = 0; out = [] }) announces
 
   opened-card : next c (opens g) ≡ chainOn c k
   opened-card = ap (λ (o : Outcome). o .card) opened
@@ -198,7 +198,7 @@ module _ (c : Card) (h : Kept c) (f : List ℕ) (ei : insOf f ≡ writeData) (pl
 
   module _ (u : Inputs) where
     -- what the WriteData leaves
-    single : sends c f u ≡ record { card = given (chainOn c k) (bytesIn d); refusal = 0; out = word ok }
+    single : sends c f u ≡ record { card = given (chainOn c k) (bytesIn d); refusal = 0; stored = 0; out = word ok }
     single = sym (command-plays c f u 258 (omega arith) (h .rules)) ∙ sym (plays-accepted c f u e) ∙ ap (laidInto c) as-write ∙ left-behind
       where
         as-write : accepted (view c) u (insOf f) d ≡ acceptedPlain false (view c) u writeData d
@@ -210,8 +210,8 @@ module _ (c : Card) (h : Kept c) (f : List ℕ) (ei : insOf f ≡ writeData) (pl
         whole-long : lengthOf d ≡ length (bytesIn d)
         whole-long = let l = length-part d 7 (length d) (omega arith) in omega (arith, l, field-long .0)
 
-        left-behind : laidInto c (acceptedPlain false (view c) u writeData d) ≡ record { card = given (chainOn c k) (bytesIn d); refusal = 0; out = word ok }
-        left-behind = unfold laidInto acceptedPlain macBehind shown shownOf acceptedStatus changed channelAfter purseAfter journalAfter filesAfter put view given chainOn chained pick in
+        left-behind : laidInto c (acceptedPlain false (view c) u writeData d) ≡ record { card = given (chainOn c k) (bytesIn d); refusal = 0; stored = 0; out = word ok }
+        left-behind = unfold laidInto acceptedPlain macBehind shown shownOf acceptedStatus changed channelAfter purseAfter journalAfter storedAfter filesAfter put view given chainOn chained pick in
             λ i. record {
               card = record {
                 settings = c .settings;
@@ -222,6 +222,7 @@ module _ (c : Card) (h : Kept c) (f : List ℕ) (ei : insOf f ≡ writeData) (pl
                 channel = sym (advanced-all (c .channel) k (length (bytesIn d)) free whole-long) i;
               };
               refusal = 0;
+              stored = 0;
               out = word ok;
             }
 

@@ -57,7 +57,7 @@ module _ (c : Card) (h : Kept c) (g : List ℕ) (m : macedIn (view c .core) (ins
     refuses : sends c g u ≡ laidInto c (refused (view c) (first above ok))
     refuses = sym (command-plays c g u 258 (omega arith) (h .rules)) ∙ sym (plays-refused c g u (first above ok) status-there refused-there)
 
-    leaves : sends c g u .card ≡ put c (ended (view c))
+    leaves : sends c g u .card ≡ put c 0 (ended (view c))
     unfolding laidInto refused
     leaves = ap (λ (o : Outcome). o .card) refuses
 

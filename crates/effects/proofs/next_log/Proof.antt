@@ -1,63 +1,24 @@
-use Rattle.effects.specs.Effects.{journalAfter}
-use Rattle.logbook.specs.Laws.{put-view}
-use Rattle.logbook.specs.View.{put}
-use Rattle.tables.specs.Choice.{order}
-use mathlib.Core.Path.{sym, ap, _∙_}
+use Rattle.effects.specs.Effects.{journalAfter, storedAfter}
+use Rattle.logbook.specs.View.{putStored}
+use Rattle.tables.specs.Choice.{pick, passed}
+use borrow.Author.Tests.{ne-eqb}
+use mathlib.Core.Path.{refl, _∙_}
 use Rattle.effects.proofs.next_log.Statement.{statement}
 use Rattle.effects.proofs.next_log.Tie as tie
-
-le3-at-requires : tie.Need-le3-at-requires
-le3-at-requires c κs = tt
-
-bytes-in-requires : tie.Need-bytes-in-requires
-bytes-in-requires c κs = tt
-
-write-requires : tie.Need-write-requires
-write-requires c κs = tt
-
-returns : tie.Need-returns
-unfolding journalAfter
-returns c =
-    let b = c .before in
-    simp (b .bytes-in .ensures, b .before .le3-at .ensures) at (c .write .ensures) ∙ ap (put (b .before .before .before .before .args .log)) (search order)
-
-clear-requires : tie.Need-clear-requires
-clear-requires c κs = tt
-
-returns-2 : tie.Need-returns-2
-unfolding journalAfter
-returns-2 c = c .clear .ensures ∙ ap (put (c .before .before .before .before .args .log)) (search order)
 
 commit-requires : tie.Need-commit-requires
 commit-requires c κs = tt
 
-returns-3 : tie.Need-returns-3
-unfolding journalAfter
-returns-3 c = c .commit .ensures ∙ ap (put (c .before .before .before .before .before .args .log)) (search order)
+returns : tie.Need-returns
+unfolding storedAfter journalAfter pick
+returns c = c .commit .ensures ∙ rw (c .before .if1 .taken) refl
 
-drop-pending-requires : tie.Need-drop-pending-requires
-drop-pending-requires c κs = tt
+pending-log-requires : tie.Need-pending-log-requires
+pending-log-requires c κs = ne-eqb _ _ (c .if1 .left)
 
-returns-4 : tie.Need-returns-4
-unfolding journalAfter
-returns-4 c = c .drop-pending .ensures ∙ ap (put (c .before .before .before .before .before .before .args .log)) (search order depth 7)
-
-returns-5 : tie.Need-returns-5
-unfolding journalAfter
-returns-5 c = let l = c .before .before .before .before .before .args .log in sym (put-view l) ∙ ap (put l) (search order depth 7)
+returns-2 : tie.Need-returns-2
+unfolding storedAfter putStored
+returns-2 c = rw (passed _ _ (ne-eqb _ _ (c .before .if1 .left)), c .pending-log .ensures) refl
 
 pub next-log-spec : {M : Type 1} → statement M
-next-log-spec =
-    tie.close
-    (tie.spec
-    le3-at-requires
-    bytes-in-requires
-    write-requires
-    returns
-    clear-requires
-    returns-2
-    commit-requires
-    returns-3
-    drop-pending-requires
-    returns-4
-    returns-5)
+next-log-spec = tie.close (tie.spec commit-requires returns pending-log-requires returns-2)

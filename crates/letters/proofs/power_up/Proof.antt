@@ -1,5 +1,5 @@
 use Rattle.notices.specs.Notices.{noticeText}
-use Rattle.letters.specs.Letters.{saidOf, withCard, powered}
+use Rattle.letters.specs.Letters.{saidOf, afterEvent, powered}
 use Rattle.answers.specs.Answers.{refusalText}
 use Rattle.card.specs.declared.Reply.{Reply}
 use Rattle.card.specs.Outcome.{replyOf}
@@ -11,8 +11,8 @@ power-up-requires : tie.Need-power-up-requires
 power-up-requires c κs = tt
 
 returns : tie.Need-returns
-unfolding saidOf noticeText powered withCard replyOf
-returns c = let k = c .before .before .before .args .desk in ap (λ (x : Reply). record { next = withCard k (x .card); out = refusalText (x .refusal) }) (c .before .power-up .ensures)
+unfolding saidOf noticeText powered afterEvent replyOf
+returns c = let k = c .before .before .before .args .desk in ap (λ (x : Reply). record { next = afterEvent k (x .card) (x .stored); out = refusalText (x .refusal) }) (c .before .power-up .ensures)
 
 pub power-up-spec : {M : Type 1} → statement M
 power-up-spec = tie.close (tie.spec power-up-requires returns)

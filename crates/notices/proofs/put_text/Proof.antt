@@ -1,3 +1,4 @@
+use Rattle.decimal.specs.Laws.{decimal-shown}
 use Rattle.notices.specs.Notices.{noticeText}
 use Rattle.answers.specs.Answers.{numbered, refusalText}
 use Rattle.answers.specs.Laws.{length-numbered, length-refusal}
@@ -86,18 +87,37 @@ returns-4 c =
     let two = v .0 .0 ∷ v .0 .1 .0 ∷ [] in
     shows-as _ _ _ _ _ (digits-shown (length (now (s .args .text))) two (omega arith) ∙ sym (ap (λ a. noticeText a (s .args .purse) (s .args .log) (s .args .stage) (s .args .chain)) (v .1))) (c .before .before .put-digits .ensures)
 
+enum-known-notice-4 : tie.Need-enum-known-notice-4
+enum-known-notice-4 c = search needs
+
+cast-put-decimal : tie.Need-cast-put-decimal
+cast-put-decimal c = search needs
+
+put-decimal-requires : tie.Need-put-decimal-requires
+put-decimal-requires c κs = tt
+
+same-length-5 : tie.Need-same-length-5
+same-length-5 c = search needs
+
+returns-5 : tie.Need-returns-5
+unfolding noticeText
+returns-5 c =
+    let s = c .before .before .before .before .before .before .before .before in
+    let v = c .before .before .before .before .before .notice4 .given in
+    shows-as _ _ _ _ _ (decimal-shown (length (now (s .args .text))) (v .0 .0) (omega arith) ∙ sym (ap (λ a. noticeText a (s .args .purse) (s .args .log) (s .args .stage) (s .args .chain)) (v .1))) (c .before .before .put-decimal .ensures)
+
 enum-told-2 : tie.Need-enum-told-2
 enum-told-2 c = search needs
 
 put-books-requires : tie.Need-put-books-requires
 put-books-requires c κs = tt
 
-same-length-5 : tie.Need-same-length-5
-same-length-5 c = search needs
+same-length-6 : tie.Need-same-length-6
+same-length-6 c = search needs
 
-returns-5 : tie.Need-returns-5
+returns-6 : tie.Need-returns-6
 unfolding noticeText booksIn
-returns-5 c =
+returns-6 c =
     let s = c .before .before .before .before .before .before .before in
     let e = ap (λ a. noticeText a (s .args .purse) (s .args .log) (s .args .stage) (s .args .chain)) (c .before .before .before .before .enum-told2 .given .1) in
     shows-as _ _ _ _ _ (passed _ _ (le-ltb (length (now (s .args .text))) 96 (omega arith)) ∙ sym e) (c .before .before .put-books .ensures)
@@ -124,7 +144,12 @@ put-text-spec =
     put-digits-requires
     same-length-4
     returns-4
+    enum-known-notice-4
+    cast-put-decimal
+    put-decimal-requires
+    same-length-5
+    returns-5
     enum-told-2
     put-books-requires
-    same-length-5
-    returns-5)
+    same-length-6
+    returns-6)

@@ -10,16 +10,16 @@ use Rattle.records.proofs.lay_entries.Statement.{statement}
 use Rattle.records.proofs.lay_entries.Tie as tie
 
 abbrev Inv-loop : tie.InvT-loop
-Inv-loop slots first number reply₀ end k₀ reply k = (k ≤ number) × (length reply ≡ length reply₀) × (reply ≡ laid reply₀ 0 (oldestFirst slots (end - k) k))
+Inv-loop slots place first number reply₀ end k₀ reply k = (k ≤ number) × (length reply ≡ length reply₀) × (reply ≡ laid reply₀ 0 (oldestFirst slots place (end - k) k))
 
 abbrev μ-loop : tie.MeasureT-loop
-μ-loop slots first number reply₀ end k₀ reply k = number - k
+μ-loop slots place first number reply₀ end k₀ reply k = number - k
 
 add-end : tie.Need-add-end Inv-loop μ-loop
 add-end c = search needs
 
 loop-holds : tie.Need-loop-holds Inv-loop μ-loop
-loop-holds c = (omega arith, refl, oldest-none (c .before .before .args .reply .now) _ _)
+loop-holds c = (omega arith, refl, oldest-none (c .before .before .args .reply .now) _ _ _)
 
 add-i : tie.Need-add-i Inv-loop μ-loop
 add-i c = search needs
@@ -29,6 +29,12 @@ sub-i c = search needs
 
 mul-i : tie.Need-mul-i Inv-loop μ-loop
 mul-i c = search needs
+
+add-i-2 : tie.Need-add-i-2 Inv-loop μ-loop
+add-i-2 c = search needs
+
+mul-i-2 : tie.Need-mul-i-2 Inv-loop μ-loop
+mul-i-2 c = search needs
 
 mul-lay : tie.Need-mul-lay Inv-loop μ-loop
 mul-lay c = search needs
@@ -60,7 +66,7 @@ loop-again c =
     let l = i .before .loop in
     let s = i .before .before .before .before in
     let a = s .args in
-    (search needs, search needs, c .before .before .lay .ensures ∙ oldest-step (a .reply .now) (a .slots .now) (l .reply) (a .first) (a .number) (l .k) (s .pre) (i .loop-test .taken) (l .inv .2))
+    (search needs, search needs, c .before .before .lay .ensures ∙ oldest-step (a .reply .now) (a .slots .now) (l .reply) (a .place) (a .first) (a .number) (l .k) (s .pre) (i .loop-test .taken) (l .inv .2))
 
 mul-result : tie.Need-mul-result Inv-loop μ-loop
 mul-result c = search needs
@@ -73,7 +79,7 @@ returns c =
     let l = c .before .loop in
     let s = c .before .before .before .before in
     let a = s .args in
-    oldest-all (a .reply .now) (a .slots .now) (l .reply) (a .first) (a .number) (l .k) (s .pre) (l .inv .0) (c .loop-test .left) (l .inv .2)
+    oldest-all (a .reply .now) (a .slots .now) (l .reply) (a .place) (a .first) (a .number) (l .k) (s .pre) (l .inv .0) (c .loop-test .left) (l .inv .2)
 
 pub lay-entries-spec : {M : Type 1} → statement M
 lay-entries-spec =
@@ -86,6 +92,8 @@ lay-entries-spec =
     add-i
     sub-i
     mul-i
+    add-i-2
+    mul-i-2
     mul-lay
     add-lay
     sub-lay

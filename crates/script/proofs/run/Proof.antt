@@ -1,7 +1,7 @@
 use Rattle.script.specs.Lines.{commandedOn, lineSaid}
-use Rattle.script.proofs.Steps.{front-holds, own-card, written, line, played-full, played-next, ends, told-full, told-next}
+use Rattle.script.proofs.Steps.{front-holds, own-state, written, line, played-full, played-next, ends, told-full, told-next}
 use Rattle.lines.specs.Sofar.{Sofar, sofar-start, sofar-length, sofar-end, sofar-part, sofar-as}
-use Rattle.letters.specs.Letters.{withCard}
+use Rattle.letters.specs.Letters.{afterEvent}
 use Rattle.letters.specs.Laws.{Plays, lent-most, plays-lent, reply-bytes}
 use Rattle.card.specs.Events.{commanded}
 use Rattle.desk.specs.declared.Desk.{Desk}
@@ -20,7 +20,7 @@ use Rattle.script.proofs.run.Tie as tie
 
 -- the desk of the run has the card of the last reply
 abbrev Inv-loop : tie.InvT-loop
-Inv-loop desk₀ text out₀ frame₀ reply₀ at₀ n₀ played₀ desk out frame reply at n played = (length reply ≡ 512) × Sofar lineSaid desk₀ text out₀ (withCard desk (played .card)) at n out
+Inv-loop desk₀ text out₀ frame₀ reply₀ at₀ n₀ played₀ desk out frame reply at n played = (length reply ≡ 512) × Sofar lineSaid desk₀ text out₀ (afterEvent desk (played .card) (played .stored)) at n out
 
 abbrev μ-loop : tie.MeasureT-loop
 μ-loop desk₀ text out₀ frame₀ reply₀ at₀ n₀ played₀ desk out frame reply at n played = length text - at
@@ -29,7 +29,7 @@ abbrev μ-loop : tie.MeasureT-loop
 
 module _ (k : tie.At-loop Inv-loop μ-loop) where
   abbrev here : Desk
-  here = withCard (k .loop .desk) (k .loop .played .card)
+  here = afterEvent (k .loop .desk) (k .loop .played .card) (k .loop .played .stored)
 
 -- the frame at its place is spelt
 module _ (k : tie.After-spell-frame Inv-loop μ-loop) where
@@ -59,7 +59,7 @@ module _ (k : tie.After-command Inv-loop μ-loop) where
   buffer-length = length-front (at-loop .loop .reply) (k .command .last .1 .1 .1 .0) (k .before .before .before .before .before .before .before .lent-room .result - 0) (k .command .kept .1 .1 .1 .0) ∙ at-loop .loop .inv .0
 
   plays : Plays (commandedOn (here at-loop) (part (spelt .spell-frame .last .1 .1 .0) 0 (spelt .spell-frame .result))) buffer (k .command .result)
-  unfolding withCard
+  unfolding afterEvent
   plays =
       plays-lent (commanded (at-loop .loop .played .card) _ (at-loop .loop .desk .inputs)) (at-loop .loop .reply) _ (at-loop .loop .desk .room) _ _ (k .before .before .before .before .before .before .before .lent-room .ensures) (omega (arith, at-loop .loop .inv .0)) (k .command .kept .1 .1 .1 .0) (k .command .ensures)
 
@@ -74,7 +74,7 @@ module _ (k : tie.After-line-end Inv-loop μ-loop) where
 -- ---- the needs
 
 loop-holds : tie.Need-loop-holds Inv-loop μ-loop
-loop-holds c = (search needs, sofar-as lineSaid _ _ _ _ _ _ _ _ (own-card _) (sofar-start lineSaid _ _ _))
+loop-holds c = (search needs, sofar-as lineSaid _ _ _ _ _ _ _ _ (own-state _) (sofar-start lineSaid _ _ _))
 
 spell-frame-requires : tie.Need-spell-frame-requires Inv-loop μ-loop
 spell-frame-requires c κs = tt
@@ -127,7 +127,7 @@ same-length c = c .before .before .before .put-line .kept .1 .1 .1 .0 ∙ sofar-
 
 -- for want of room the desk has had its card before; else there was room
 returns : tie.Need-returns Inv-loop μ-loop
-unfolding withCard
+unfolding afterEvent
 returns c =
     let m = c .before .before .before .before .before .before .before .before in
     let v = at-loop m .loop in
@@ -151,7 +151,7 @@ loop-less : tie.Need-loop-less Inv-loop μ-loop
 loop-less c = omega (arith, inside (c .before .before .before .before .before .before .before .before .before .before .before .before .before .before .before .before) .1)
 
 loop-again : tie.Need-loop-again Inv-loop μ-loop
-unfolding withCard
+unfolding afterEvent
 loop-again c =
     let m = c .before .before .before .before .before .before .before .before in
     let v = at-loop m .loop in
@@ -166,7 +166,7 @@ same-length-2 : tie.Need-same-length-2 Inv-loop μ-loop
 same-length-2 c = sofar-length lineSaid _ _ _ _ _ _ _ (c .before .before .before .before .before .before .before .loop .inv .1)
 
 returns-2 : tie.Need-returns-2 Inv-loop μ-loop
-unfolding withCard
+unfolding afterEvent
 returns-2 c =
     let k = c .before in
     let l = ends _ _ _ _ _ _ _ (start k .loop .inv .1) _ (k .before .before .before .spell-frame .ensures .0) (k .before .before .if1 .left) _ (k .line-end .ensures) in
@@ -191,7 +191,7 @@ same-length-3 : tie.Need-same-length-3 Inv-loop μ-loop
 same-length-3 c = c .before .before .before .put-told .kept .1 .1 .0 ∙ sofar-length lineSaid _ _ _ _ _ _ _ (c .before .before .before .before .before .before .before .before .before .before .before .before .before .before .loop .inv .1)
 
 returns-3 : tie.Need-returns-3 Inv-loop μ-loop
-unfolding withCard
+unfolding afterEvent
 returns-3 c =
     let k = c .before .before .before .before .before .before .before .before in
     let v = start k .loop in
@@ -205,7 +205,7 @@ loop-less-2 : tie.Need-loop-less-2 Inv-loop μ-loop
 loop-less-2 c = omega (arith, end (c .before .before .before .before .before .before .before .before .before .before) .0, end (c .before .before .before .before .before .before .before .before .before .before) .1, c .before .before .before .before .before .before .before .before .before .if4 .left)
 
 loop-again-2 : tie.Need-loop-again-2 Inv-loop μ-loop
-unfolding withCard
+unfolding afterEvent
 loop-again-2 c =
     let k = c .before .before .before .before .before .before .before .before .before .before in
     let v = start k .loop in
@@ -216,7 +216,7 @@ same-length-4 : tie.Need-same-length-4 Inv-loop μ-loop
 same-length-4 c = sofar-length lineSaid _ _ _ _ _ _ _ (c .before .before .loop .inv .1)
 
 returns-4 : tie.Need-returns-4 Inv-loop μ-loop
-unfolding withCard
+unfolding afterEvent
 returns-4 c = sofar-end lineSaid _ _ _ _ _ _ _ (c .before .before .loop .inv .1) (c .before .loop-test .left)
 
 pub run-spec : {M : Type 1} → statement M

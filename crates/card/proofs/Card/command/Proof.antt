@@ -1,7 +1,9 @@
+use Rattle.logbook.specs.View.{putStored}
+use Rattle.logbook.specs.declared.Stored.{Stored}
 use Rattle.card.specs.declared.Card.{Card}
 use Rattle.card.specs.Events.{replyRoom}
 use Rattle.card.specs.Accepted.{Granted}
-use Rattle.card.specs.Laws.{bench-answers, answered-as, no-bench, command-bench, command-refused, command-granted, command-accepts, command-part, command-quiet, begins-plain, opens-plain, opens-long, moved, wrote}
+use Rattle.card.specs.Laws.{bench-answers, answered-as, no-bench, command-bench, command-refused, command-granted, command-accepts, command-part, command-quiet, begins-plain, opens-plain, opens-long, moved, wrote, write-stores-none}
 use Rattle.card.specs.Sealing.{Sealed, sealed-plain}
 use Rattle.checks.specs.Order.{status-told, maced-told}
 use Rattle.card.specs.View.{view, broken}
@@ -173,25 +175,29 @@ returns-6 c =
     let q = c .before .before .before .before .before in
     let p = c .before .before .before .before .before .before .before .before .before in
     let w = wrote (card p) (inputs p) _ (now (p .plain .result)) _ (c .before .if7 .taken) (c .next-files .ensures) (c .before .before .before .before .counted .ensures) in
-    command-quiet (card p) (frame p) (inputs p) (buffer p) (room p) (sound p) (taken p) (maced p) (p .before .before .byte-at .ensures) (p .before .«data» .ensures) (p .plain .ensures) (ne-eqb _ _ (q .before .before .before .if3 .left)) (ne-eqb _ _ (q .before .before .if4 .left)) (sym (q .before .shows .ensures) ∙ q .if5 .left) w (c .before .before .before .before .counted .ensures) (sealed (c .before .before .before))
-
-next-purse-requires : tie.Need-next-purse-requires
-next-purse-requires c κs = tt
+    command-quiet (card p) (frame p) (inputs p) (buffer p) (room p) (sound p) (taken p) (maced p) (p .before .before .byte-at .ensures) (p .before .«data» .ensures) (p .plain .ensures) (ne-eqb _ _ (q .before .before .before .if3 .left)) (ne-eqb _ _ (q .before .before .if4 .left)) (sym (q .before .shows .ensures) ∙ q .if5 .left) (write-stores-none (card p) (c .before .if7 .taken)) w (c .before .before .before .before .counted .ensures) (sealed (c .before .before .before))
 
 next-log-requires : tie.Need-next-log-requires
 next-log-requires c κs = tt
 
+next-purse-requires : tie.Need-next-purse-requires
+next-purse-requires c κs = tt
+
 same-length-6 : tie.Need-same-length-6
-same-length-6 c = as-long (c .before .before .before .before)
+same-length-6 c = as-long (c .before .before .before .before .before)
 
 returns-7 : tie.Need-returns-7
+unfolding putStored view
 returns-7 c =
-    let q = c .before .before .before .before .before .before in
-    let p = c .before .before .before .before .before .before .before .before .before .before in
+    let x = c .before in
+    let q = x .before .before .before .before .before .before in
+    let p = q .before .before .before .before in
+    let l = x .before .next-log .ensures in
+    let n = ap (λ (r : Stored). r .stored) l in
     let n₁ = ne-eqb _ _ (q .before .before .before .if3 .left) in
     let n₂ = ne-eqb _ _ (q .before .before .if4 .left) in
-    let w = moved (card p) (inputs p) _ _ _ _ (granted p .0) n₁ n₂ (ne-eqb _ _ (c .before .before .if7 .left)) (c .before .next-purse .ensures) (c .next-log .ensures) (c .before .before .before .before .before .counted .ensures) in
-    command-quiet (card p) (frame p) (inputs p) (buffer p) (room p) (sound p) (taken p) (maced p) (p .before .before .byte-at .ensures) (p .before .«data» .ensures) (p .plain .ensures) n₁ n₂ (sym (q .before .shows .ensures) ∙ q .if5 .left) w (c .before .before .before .before .before .counted .ensures) (sealed (c .before .before .before .before))
+    let w = moved (card p) (inputs p) _ _ _ _ (granted p .0) n₁ n₂ (ne-eqb _ _ (x .before .before .if7 .left)) (c .next-purse .ensures) (ap (λ (r : Stored). r .log) l) n (x .before .before .before .before .before .counted .ensures) in
+    command-quiet (card p) (frame p) (inputs p) (buffer p) (room p) (sound p) (taken p) (maced p) (p .before .before .byte-at .ensures) (p .before .«data» .ensures) (p .plain .ensures) n₁ n₂ (sym (q .before .shows .ensures) ∙ q .if5 .left) n w (x .before .before .before .before .before .counted .ensures) (sealed (x .before .before .before .before))
 
 pub command-spec : {M : Type 1} → statement M
 command-spec =
@@ -223,7 +229,7 @@ command-spec =
     next-files-requires
     same-length-5
     returns-6
-    next-purse-requires
     next-log-requires
+    next-purse-requires
     same-length-6
     returns-7)

@@ -1,5 +1,5 @@
 use Rattle.notices.specs.Notices.{noticeText}
-use Rattle.letters.specs.Letters.{saidOf, withCard, counted}
+use Rattle.letters.specs.Letters.{saidOf, afterEvent, counted}
 use Rattle.answers.specs.Answers.{numbered}
 use Rattle.card.specs.declared.Reply.{Reply}
 use Rattle.card.specs.Outcome.{replyOf}
@@ -11,8 +11,8 @@ change-session-requires : tie.Need-change-session-requires
 change-session-requires c κs = tt
 
 returns : tie.Need-returns
-unfolding saidOf noticeText counted withCard replyOf
-returns c = let k = c .before .before .before .args .desk in ap (λ (x : Reply). record { next = withCard k (x .card); out = numbered (x .refusal) }) (c .before .change-session .ensures)
+unfolding saidOf noticeText counted afterEvent replyOf
+returns c = let k = c .before .before .before .args .desk in ap (λ (x : Reply). record { next = afterEvent k (x .card) (x .stored); out = numbered (x .refusal) }) (c .before .change-session .ensures)
 
 pub change-session-spec : {M : Type 1} → statement M
 change-session-spec = tie.close (tie.spec change-session-requires returns)

@@ -1,5 +1,5 @@
 use Rattle.notices.specs.Notices.{noticeText}
-use Rattle.letters.specs.Letters.{saidOf, unread, counted, lent, bookKept, letteredBy}
+use Rattle.letters.specs.Letters.{saidOf, unread, counted, lent, bookKept, storedTold, letteredBy}
 use Rattle.access.specs.declared.Session.the-variants.{Key}
 use Rattle.card.specs.Events.{sessionChanged}
 use Rattle.tables.specs.Choice.{order, or-no, and-yes, and-left}
@@ -61,20 +61,32 @@ returns-5 c = c .hand-in .ensures ∙ search order depth 10
 returns-6 : tie.Need-returns-6
 unfolding letteredBy saidOf noticeText bookKept
 returns-6 c =
-    let a = c .before .before .before .before .before .before .before .args in
-    let g = or-no (eqb (a .letter) 0x43) (eqb (a .letter) 0x44) (c .before .before .before .before .before .before .before .pre .0) in
+    let s = c .before .before .before .before .before .before .before in
+    let a = s .args in
+    let g = or-no (eqb (a .letter) 0x43) (eqb (a .letter) 0x44) (s .pre .0) in
     let opens : (eqb (a .letter) 0x43 && leb 2 (a .n) && a .digits) ≡ false = and-left _ _ (and-left _ _ (g .0)) in
     let sends : (eqb (a .letter) 0x44 && a .digits) ≡ false = and-left _ _ (g .1) in
-    search order depth 12
+    search order depth 13
 
 returns-7 : tie.Need-returns-7
-unfolding letteredBy saidOf noticeText unread
+unfolding letteredBy saidOf noticeText storedTold
 returns-7 c =
-    let a = c .before .before .before .before .before .before .before .args in
-    let g = or-no (eqb (a .letter) 0x43) (eqb (a .letter) 0x44) (c .before .before .before .before .before .before .before .pre .0) in
+    let s = c .before .before .before .before .before .before .before .before in
+    let a = s .args in
+    let g = or-no (eqb (a .letter) 0x43) (eqb (a .letter) 0x44) (s .pre .0) in
     let opens : (eqb (a .letter) 0x43 && leb 2 (a .n) && a .digits) ≡ false = and-left _ _ (and-left _ _ (g .0)) in
     let sends : (eqb (a .letter) 0x44 && a .digits) ≡ false = and-left _ _ (g .1) in
-    search order depth 12
+    search order depth 13
+
+returns-8 : tie.Need-returns-8
+unfolding letteredBy saidOf noticeText unread
+returns-8 c =
+    let s = c .before .before .before .before .before .before .before .before in
+    let a = s .args in
+    let g = or-no (eqb (a .letter) 0x43) (eqb (a .letter) 0x44) (s .pre .0) in
+    let opens : (eqb (a .letter) 0x43 && leb 2 (a .n) && a .digits) ≡ false = and-left _ _ (and-left _ _ (g .0)) in
+    let sends : (eqb (a .letter) 0x44 && a .digits) ≡ false = and-left _ _ (g .1) in
+    search order depth 13
 
 pub say-spelt-spec : {M : Type 1} → statement M
 say-spelt-spec =
@@ -93,4 +105,5 @@ say-spelt-spec =
     hand-in-requires
     returns-5
     returns-6
-    returns-7)
+    returns-7
+    returns-8)

@@ -1,5 +1,5 @@
 use Rattle.letters.proofs.Steps.{replied-by}
-use Rattle.letters.specs.Letters.{withCard, openedOn, sentOn}
+use Rattle.letters.specs.Letters.{afterEvent, openedOn, sentOn}
 use Rattle.letters.specs.Laws.{Plays, Brief, lent-most, plays-lent, reply-bytes, opening-brief, bytes-brief}
 use Rattle.card.specs.declared.Reply.{Reply}
 use Rattle.card.specs.Outcome.{Outcome, replyOf}
@@ -72,7 +72,7 @@ answer-requires c κs =
     rw (m, b) (brief k)
 
 returns : tie.Need-returns
-unfolding withCard
+unfolding afterEvent
 returns c = let k = c .before .before .before .before .before in replied-by (start k .args .desk) (outcome k) (buffer k) (k .event .result) _ (plays k) (c .answer .ensures)
 
 pub play-spec : {M : Type 1} → statement M

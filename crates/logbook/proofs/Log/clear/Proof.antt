@@ -12,7 +12,7 @@ drop-pending-requires c κs = search needs
 
 returns : tie.Need-returns
 unfolding put dropped cleared resting
-returns c = ap (λ (l : Log). record { slots = l .slots; count = l .count; entry = l .entry; adds = l .adds; clears = true }) (c .drop-pending .ensures)
+returns c = ap (λ (l : Log). record { slots = l .slots; place = l .place; count = l .count; entry = l .entry; adds = l .adds; clears = true }) (c .drop-pending .ensures)
 
 pub clear-spec : {M : Type 1} → statement M
 clear-spec = tie.close (tie.spec drop-pending-requires returns)
