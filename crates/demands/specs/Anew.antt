@@ -6,7 +6,7 @@ use mathlib.Core.Path.{_≡_, refl}
 use lib.Dec.{eqb}
 use lib.IntN.{pos}
 use Rattle.tables.specs.Choice.{pick}
-use Rattle.logbook.specs.Wear.{stores, storesOf}
+use Rattle.logbook.specs.Wear.{storesOf}
 use Rattle.keys.specs.Keys as keys
 use Rattle.card.specs.declared.Card.{Card}
 use Rattle.card.specs.View.{view}

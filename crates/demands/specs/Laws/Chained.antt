@@ -7,12 +7,12 @@ use native.Mathlib.Omega.{arith}
 use borrow.Author.Tests.{not-false, not-true, eqb-true, eqb-false, ne-eqb, ltb-false, leb-true, leb-false, le-leb}
 use lib.Dec.{eqb, leb, ltb}
 use lib.ListN.{length}
-use Rattle.tables.specs.Choice.{pick, picked, passed, pick-cases, none, or-no, and-yes, and-both, and-left, and-right, not-no}
+use Rattle.tables.specs.Choice.{pick, passed, pick-cases, none, or-no, and-yes, and-both, and-right}
 use Rattle.tables.specs.Reasons.{no-reason}
 use Rattle.wire.specs.Bytes.{outsideOf}
 use Rattle.datafiles.specs.Files.{sizeOf}
 use Rattle.chains.specs.declared.Chain.{Chain}
-use Rattle.chains.specs.Chain.{unchained, isOpen, announced, nextPlace, completes, shortened, mostBytes, wrongBytes, chainSound}
+use Rattle.chains.specs.Chain.{isOpen, announced, nextPlace, completes, shortened, mostBytes, wrongBytes, chainSound}
 use Rattle.channel.specs.declared.Channel.{Channel}
 use Rattle.channel.specs.Channel.{isWaiting, chained, advanced}
 use Rattle.frames.specs.Frame.{insOf, dataOf, fileOf, offsetOf, lengthOf}

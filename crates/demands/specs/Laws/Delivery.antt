@@ -2,7 +2,7 @@
 use Prim.Native.Nat.{ℕ, _+_, _-_, _≤_, _<_}
 use mathlib.Core.Bool.{Bool, true, false, not}
 use mathlib.Core.List.{List, [], _∷_, _++_, append-nil}
-use mathlib.Core.Path.{_≡_, refl, sym, ap, subst, _∙_}
+use mathlib.Core.Path.{_≡_, refl, sym, ap, _∙_}
 use native.Mathlib.Omega.{arith}
 use borrow.Author.Tests.{ne-eqb, le-leb, lt-leb, le-ltb, leb-true, leb-false}
 use lib.Dec.{leb}
@@ -16,9 +16,9 @@ use Rattle.datafiles.specs.Files.{sizeOf, written}
 use Rattle.logbook.specs.declared.Log.{Log}
 use Rattle.logbook.specs.Laws as logbook
 use Rattle.chains.specs.declared.Chain.{Chain}
-use Rattle.chains.specs.Chain.{unchained, isOpen, announced, nextPlace, completes, shortened, mostBytes, wrongBytes}
+use Rattle.chains.specs.Chain.{announced, nextPlace, completes, shortened, mostBytes, wrongBytes}
 use Rattle.channel.specs.declared.Channel.{Channel}
-use Rattle.channel.specs.Channel.{counted, chained, advanced}
+use Rattle.channel.specs.Channel.{chained, advanced}
 use Rattle.frames.specs.Frame.{dataOf}
 use Rattle.columns.specs.Table.{isData}
 use Rattle.rows.specs.Rows.{ok, openingStatus, bytesRows, bytesStatus}
@@ -28,11 +28,11 @@ use Rattle.card.specs.Outcome.{Outcome}
 use Rattle.card.specs.Events.{laidInto, opening, openingPlayed, delivered, bytesPlayed}
 use Rattle.card.specs.Laws.{judged-accepted}
 use Rattle.demands.specs.Strike.{flat}
-use Rattle.demands.specs.History.{Event, opens, delivers, outcome, next, plays, run, along}
+use Rattle.demands.specs.History.{opens, delivers, outcome, next, plays, run, along}
 use Rattle.demands.specs.Demands.{Kept}
 use Rattle.demands.specs.Chains.{FrameSizes, delivery, heard}
 use Rattle.demands.specs.Laws.Sound.{Sized}
-use Rattle.demands.specs.Laws.Chained.{Carried, Ranged, ranged, bytes-room}
+use Rattle.demands.specs.Laws.Chained.{Ranged, ranged}
 use Rattle.demands.specs.Laws.Filed.{by-file}
 use Rattle.demands.specs.Laws.Steps.{sound-view, outcome-plays, next-kept}
 

@@ -11,7 +11,6 @@ use Rattle.purse.specs.Purse as purse
 use Rattle.standing.specs.Laws as rules-laws
 use Rattle.logbook.specs.Journal as journal
 use Rattle.keys.specs.declared.Keys.{Keys}
-use Rattle.channel.specs.declared.Inputs.{Inputs}
 use Rattle.channel.specs.Channel.{closed}
 use Rattle.settings.specs.declared.Settings.{Settings}
 use Rattle.rows.specs.State.{State, logPending}

@@ -1,5 +1,5 @@
 -- What the methods return along a run is what the definitions say.
-use Prim.Native.Nat.{ℕ, _+_, _≤_, _<_}
+use Prim.Native.Nat.{ℕ, _+_, _≤_}
 use mathlib.Core.Bool.{true, false}
 use mathlib.Core.List.{List, [], _∷_}
 use mathlib.Core.Path.{_≡_, refl, sym, _∙_, ap, subst}
@@ -14,14 +14,13 @@ use Rattle.wire.specs.Laws.{laid-none}
 use Rattle.access.specs.declared.Session.{Session}
 use Rattle.access.specs.Rights.{sessionSound}
 use Rattle.keys.specs.declared.Keys.{Keys}
-use Rattle.channel.specs.declared.Inputs.{Inputs}
 use Rattle.settings.specs.declared.Settings.{Settings}
 use Rattle.card.specs.declared.Card.{Card}
 use Rattle.card.specs.declared.Reply.{Reply}
 use Rattle.card.specs.Outcome.{Outcome, replyOf, Answered, bench}
 use Rattle.card.specs.Events.{Played, laidInto, benched, commanded, chainOpened, bytesSent, sessionChanged, poweredUp, issued, personalised}
 use Rattle.card.specs.Laws.{answered-as, bench-plays, session-unknown}
-use Rattle.demands.specs.History.{Handed, Event, command, opens, delivers, session, power, outcome, next, plays, Said, said, run, along}
+use Rattle.demands.specs.History.{Event, command, opens, delivers, session, power, outcome, next, plays, Said, said, run, along}
 use Rattle.demands.specs.Demands.{Kept, Taken, Unrefused, InCode}
 use Rattle.demands.specs.Calls.{seen, Ran, done, commands, openings, frames, changes, powers, short, short-opening, short-frame, unknown}
 use Rattle.demands.specs.Laws.Steps.{outcome-plays, next-kept}

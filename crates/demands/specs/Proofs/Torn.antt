@@ -10,12 +10,11 @@ use Rattle.wire.specs.Bytes.{laid, laidIn}
 use Rattle.wire.specs.Laws.{laid-room}
 use Rattle.datafiles.specs.declared.Files.{Files}
 use Rattle.datafiles.specs.Files.{sizeOf, bytesOf, written}
-use Rattle.chains.specs.Chain.{unchained, announced, nextPlace}
+use Rattle.chains.specs.Chain.{unchained, announced}
 use Rattle.channel.specs.declared.Channel.{Channel}
 use Rattle.channel.specs.Channel.{bare, chained}
 use Rattle.frames.specs.Frame.{dataOf, fileOf, offsetOf, lengthOf}
 use Rattle.columns.specs.Table.{isData}
-use Rattle.rows.specs.State.{State}
 use Rattle.rows.specs.Rows.{ok, statusOf, openingStatus, bytesStatus}
 use Rattle.card.specs.declared.Card.{Card}
 use Rattle.card.specs.View.{view, put}
@@ -24,13 +23,13 @@ use Rattle.card.specs.Events.{ended, Played, refused, judged, played, openingPl
 use Rattle.card.specs.Laws.{judged-refused}
 use Rattle.frames.specs.Frame as frame
 use Rattle.demands.specs.Strike.{flat}
-use Rattle.demands.specs.History.{Event, command, opens, delivers, session, power, outcome, next, plays, run, booksOf}
-use Rattle.demands.specs.Demands.{Kept, Untouched}
+use Rattle.demands.specs.History.{Event, command, opens, delivers, session, power, next, plays, run, booksOf}
+use Rattle.demands.specs.Demands.{Kept}
 use Rattle.demands.specs.Chains.{FrameSizes, delivery, Ends, Torn, Tears}
 use Rattle.demands.specs.Laws.Sound.{Sized}
 use Rattle.demands.specs.Laws.Chained.{Announced, opening-announces}
 use Rattle.demands.specs.Laws.Filed.{by-file}
-use Rattle.demands.specs.Laws.Steps.{sound-view, view-next, moves, outcome-plays, next-kept, run-kept}
+use Rattle.demands.specs.Laws.Steps.{sound-view, view-next, outcome-plays, next-kept, run-kept}
 use Rattle.demands.specs.Laws.Delivery.{chainOn, given, opens-card, runs-given}
 use Rattle.demands.specs.Proofs.Demand1.{ended-untouched}
 

@@ -1,6 +1,6 @@
 -- A chain that is delivered whole leaves and replies what a WriteData of the same bytes does.
 use Prim.Native.Nat.{ℕ, _+_, _-_, _≤_, _<_}
-use mathlib.Core.Bool.{Bool, true, false, not, _&&_}
+use mathlib.Core.Bool.{true, false, not, _&&_}
 use mathlib.Core.List.{List, [], _∷_, _++_}
 use mathlib.Core.Path.{_≡_, refl, sym, ap, subst, _∙_}
 use native.Mathlib.Omega.{arith}
@@ -13,7 +13,6 @@ use Rattle.tables.specs.Reasons.{none-first}
 use Rattle.wire.specs.Bytes.{le3, word}
 use Rattle.wire.specs.Laws.{length-part}
 use Rattle.datafiles.specs.Files.{written}
-use Rattle.logbook.specs.declared.Log.{Log}
 use Rattle.logbook.specs.Laws as logbook
 use Rattle.chains.specs.declared.Chain.{Chain}
 use Rattle.chains.specs.Chain.{unchained, isOpen, announced, completes, shortened, chainSound}
@@ -39,7 +38,6 @@ use Rattle.demands.specs.Demands.{Kept}
 use Rattle.demands.specs.Sessions.{sends}
 use Rattle.demands.specs.Chains.{FrameSizes, delivery, openingOf, heard, Whole, Wholes}
 use Rattle.demands.specs.Laws.Inside.{write-long}
-use Rattle.demands.specs.Laws.Framed.{framed}
 use Rattle.demands.specs.Laws.Steps.{sound-view, next-kept}
 use Rattle.demands.specs.Laws.Delivery.{chainOn, given, opens-card, runs-given, frames-heard}
 use Rattle.demands.specs.Proofs.LetIn.{Sent, framed-sent}

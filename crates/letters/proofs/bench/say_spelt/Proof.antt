@@ -11,6 +11,13 @@ use mathlib.Core.Path.{_≡_, ap, _∙_}
 use Rattle.letters.proofs.bench.say_spelt.Statement.{statement}
 use Rattle.letters.proofs.bench.say_spelt.Tie as tie
 
+-- the letter is neither C nor D
+opens-not : (s : tie.Start) → (eqb (s .args .letter) 0x43 && leb 2 (s .args .n) && s .args .digits) ≡ false
+opens-not s = and-left _ _ (and-left _ _ (or-no (eqb (s .args .letter) 0x43) (eqb (s .args .letter) 0x44) (s .pre .0) .0))
+
+sends-not : (s : tie.Start) → (eqb (s .args .letter) 0x44 && s .args .digits) ≡ false
+sends-not s = and-left _ _ (or-no (eqb (s .args .letter) 0x43) (eqb (s .args .letter) 0x44) (s .pre .0) .1)
+
 personalise-requires : tie.Need-personalise-requires
 personalise-requires c κs = tt
 
@@ -61,31 +68,22 @@ returns-5 c = c .hand-in .ensures ∙ search order depth 10
 returns-6 : tie.Need-returns-6
 unfolding letteredBy saidOf noticeText bookKept
 returns-6 c =
-    let s = c .before .before .before .before .before .before .before in
-    let a = s .args in
-    let g = or-no (eqb (a .letter) 0x43) (eqb (a .letter) 0x44) (s .pre .0) in
-    let opens : (eqb (a .letter) 0x43 && leb 2 (a .n) && a .digits) ≡ false = and-left _ _ (and-left _ _ (g .0)) in
-    let sends : (eqb (a .letter) 0x44 && a .digits) ≡ false = and-left _ _ (g .1) in
+    let opens = opens-not (c .before .before .before .before .before .before .before) in
+    let sends = sends-not (c .before .before .before .before .before .before .before) in
     search order depth 13
 
 returns-7 : tie.Need-returns-7
 unfolding letteredBy saidOf noticeText storedTold
 returns-7 c =
-    let s = c .before .before .before .before .before .before .before .before in
-    let a = s .args in
-    let g = or-no (eqb (a .letter) 0x43) (eqb (a .letter) 0x44) (s .pre .0) in
-    let opens : (eqb (a .letter) 0x43 && leb 2 (a .n) && a .digits) ≡ false = and-left _ _ (and-left _ _ (g .0)) in
-    let sends : (eqb (a .letter) 0x44 && a .digits) ≡ false = and-left _ _ (g .1) in
+    let opens = opens-not (c .before .before .before .before .before .before .before .before) in
+    let sends = sends-not (c .before .before .before .before .before .before .before .before) in
     search order depth 13
 
 returns-8 : tie.Need-returns-8
 unfolding letteredBy saidOf noticeText unread
 returns-8 c =
-    let s = c .before .before .before .before .before .before .before .before in
-    let a = s .args in
-    let g = or-no (eqb (a .letter) 0x43) (eqb (a .letter) 0x44) (s .pre .0) in
-    let opens : (eqb (a .letter) 0x43 && leb 2 (a .n) && a .digits) ≡ false = and-left _ _ (and-left _ _ (g .0)) in
-    let sends : (eqb (a .letter) 0x44 && a .digits) ≡ false = and-left _ _ (g .1) in
+    let opens = opens-not (c .before .before .before .before .before .before .before .before) in
+    let sends = sends-not (c .before .before .before .before .before .before .before .before) in
     search order depth 13
 
 pub say-spelt-spec : {M : Type 1} → statement M
