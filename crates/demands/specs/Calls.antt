@@ -34,7 +34,7 @@ pub data Ran (d : Card) : Card → List Event → List Said → Type 0 where
   -- power_up
   powers : {c : Card} {es : List Event} {ss : List Said} (r : Reply) → r ≡ replyOf (poweredUp c) → Ran d (r .card) es ss → Ran d c (power ∷ es) (seen r [] ∷ ss)
   -- those that are no part of the history, since bench refusals answer them: with less room, and change_session to another key
-  short : {c : Card} {es : List Event} {ss : List Said} (f : List ℕ) (u : Inputs) (handed : Handed u) (before after : List ℕ) (r : Reply) → length before < 258
+  short : {c : Card} {es : List Event} {ss : List Said} (f : List ℕ) (u : Inputs) (before after : List ℕ) (r : Reply) → length before < 258
       → Answered (commanded c f u (length before)) before after r → Ran d (r .card) es ss → Ran d c es ss
   short-opening : {c : Card} {es : List Event} {ss : List Said} (f before after : List ℕ) (r : Reply) → length before < 258
       → Answered (chainOpened c f (length before)) before after r → Ran d (r .card) es ss → Ran d c es ss

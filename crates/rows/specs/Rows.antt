@@ -207,9 +207,6 @@ unfoldable pub commandStatus : Bool → Core → ℕ → List ℕ → ℕ
 commandStatus o c i x = first (drop 4 (rowsFor o c [] i x)) ok
 
 -- of a command, and of an opening
-abbrev pub rowsOf : Core → List ℕ → ℕ → List ℕ → List Reason
-rowsOf = rowsFor false
-
 abbrev pub statusOf : Core → List ℕ → ℕ
 statusOf = statusFor false
 

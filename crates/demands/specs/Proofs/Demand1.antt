@@ -97,7 +97,7 @@ module _ (c : Card) (before after : List ℕ) (r : Reply) where
   played-there : Kept c → (p : Played) → 258 ≤ length before → Answered (benched c (length before) p) before after r → Answered (laidInto c p) before after r
   played-there h p room a = answered-as _ _ before after r (sym (bench-plays c (length before) p room (h .rules))) a
 
-  short-same : (p : Played) → length before < 258 → Answered (benched c (length before) p) before after r → (r .card ≡ c) × (after ≡ before)
+  pub short-same : (p : Played) → length before < 258 → Answered (benched c (length before) p) before after r → (r .card ≡ c) × (after ≡ before)
   unfolding replyOf bench
   short-same p less a =
       let five : 5 ≡ benchRefusal (broken c) (length before) = unfold benchRefusal in sym (picked _ _ (lt-ltb _ _ less)) in

@@ -17,15 +17,16 @@ use Rattle.keys.specs.declared.Keys.{Keys}
 use Rattle.settings.specs.declared.Settings.{Settings}
 use Rattle.card.specs.declared.Card.{Card}
 use Rattle.card.specs.declared.Reply.{Reply}
+use Rattle.card.specs.View.{view}
 use Rattle.card.specs.Outcome.{Outcome, replyOf, Answered, bench}
-use Rattle.card.specs.Events.{Played, laidInto, benched, commanded, chainOpened, bytesSent, sessionChanged, poweredUp, issued, personalised}
+use Rattle.card.specs.Events.{Played, played, laidInto, benched, commanded, chainOpened, bytesSent, sessionChanged, poweredUp, issued, personalised}
 use Rattle.card.specs.Laws.{answered-as, bench-plays, session-unknown}
 use Rattle.demands.specs.History.{Event, command, opens, delivers, session, power, outcome, next, plays, Said, said, run, along}
 use Rattle.demands.specs.Demands.{Kept, Taken, Unrefused, InCode}
 use Rattle.demands.specs.Calls.{seen, Ran, done, commands, openings, frames, changes, powers, short, short-opening, short-frame, unknown}
 use Rattle.demands.specs.Laws.Steps.{outcome-plays, next-kept}
 use Rattle.demands.specs.Laws.Issued.{issued-kept}
-use Rattle.demands.specs.Proofs.Demand1.{demand1, opening-replies, frame-replies}
+use Rattle.demands.specs.Proofs.Demand1.{short-same, opening-replies, frame-replies}
 
 -- the room of the buffer shows in no outcome, once there is room
 same-room : (c : Card) → Kept c → (p : Played) (room : ℕ) → 258 ≤ room → benched c room p ≡ benched c 258 p
@@ -100,8 +101,8 @@ ran-follows {c} {d} (changes {es = es} {ss = ss} k known r q rest) h =
 ran-follows {c} {d} (powers {es = es} {ss = ss} r q rest) h =
     let b = power-answers c h r q in
     event-follows c d power es ss [] [] r b (ran-follows rest (kept-after c h power [] [] r b))
-ran-follows {c} {d} {es} {ss} (short f u handed before after r less a rest) h =
-    let e = demand1 c f u handed before after r a .short less .0 in
+ran-follows {c} {d} {es} {ss} (short f u before after r less a rest) h =
+    let e = short-same c before after r (played (view c) u f) less (unfold commanded in a) .0 in
     follows-from c (r .card) es ss d e (ran-follows rest (subst (λ (k : Card). Kept k) (sym e) h))
 ran-follows {c} {d} {es} {ss} (short-opening f before after r less a rest) h =
     let e = opening-replies c f before after r a .short less .0 in
