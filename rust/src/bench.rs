@@ -6,7 +6,7 @@
 //! | `C` and an even number of digits, at least two | opens a chain with that frame | the reply, none if accepted, or `!5` |
 //! | `D` and an even number of digits, or none | a frame of file bytes | the reply, none before the last, or `!5` |
 //! | empty | a power-up | an empty line |
-//! | `P` and 46 or 208 digits | personalises a card | `!0`, or `!1` to `!3` beside the blank card |
+//! | `P` and 46, 208 or 218 digits | personalises a card | `!0`, or `!1`, `!2`, `!3`, `!7` or `!8` beside the blank card |
 //! | `S` and 2 digits, or `S` | a session change, or no session | `!0` or `!4` |
 //! | `R` and 4 digits | the length of the reply buffer, at most 0200h | `!0` |
 //! | `N` and 40 digits | the card's random number and transaction identifier | `!0` |
@@ -19,8 +19,8 @@
 
 use crate::hex::{decode, put_hex};
 use crate::model::{
-    BenchRefusal, Card, Inputs, Mode, Personalisation, Reply, Session, KEYS, PROGRAM_CARD,
-    REPLY_ROOM,
+    BenchRefusal, Card, Inputs, Mode, Numbers, Personalisation, Reply, Session, FILES, KEYS,
+    PROGRAM_CARD, REPLY_ROOM,
 };
 use std::io::Write;
 
@@ -33,6 +33,8 @@ pub const LONGEST_ROOM: usize = 0x200;
 pub const BASE_GROUP: usize = 23;
 /// Bytes of its second group, which may be missing: keys and modes.
 pub const KEY_GROUP: usize = 16 * KEYS + 1;
+/// Bytes of its third group, which may be missing too: the numbers of the files.
+pub const NUMBER_GROUP: usize = FILES;
 
 /// The bench with the card it holds.
 #[derive(Clone, Debug)]
@@ -221,19 +223,26 @@ impl Bench {
     }
 }
 
-/// The settings of a `P` line, which ends after either group; none if it ends
+/// The settings of a `P` line, which ends after any group; none if it ends
 /// elsewhere.
 fn personalisation(bytes: &[u8]) -> Option<Personalisation> {
-    if bytes.len() != BASE_GROUP && bytes.len() != BASE_GROUP + KEY_GROUP {
-        return None;
-    }
-    let (base, rest) = bytes.split_at(BASE_GROUP);
+    let (base, rest) = group(bytes, BASE_GROUP)?;
     let with = base_group(base);
-    Some(if rest.is_empty() {
-        with
-    } else {
-        key_group(with, rest)
-    })
+    if rest.is_empty() {
+        return Some(with);
+    }
+    let (keys, rest) = group(rest, KEY_GROUP)?;
+    let with = key_group(with, keys);
+    if rest.is_empty() {
+        return Some(with);
+    }
+    let numbers = Numbers::from_order(rest.try_into().ok()?);
+    Some(Personalisation { numbers, ..with })
+}
+
+/// A group of this size, and what follows it; none if there are too few bytes.
+fn group(bytes: &[u8], size: usize) -> Option<(&[u8], &[u8])> {
+    (bytes.len() >= size).then(|| bytes.split_at(size))
 }
 
 /// The first group, figures least significant byte first; what follows it has
@@ -497,7 +506,7 @@ mod tests {
              0201EEEE00000000E803000000000000019100\n0401EEEE1000000400000000009100\n\
              35A611C675AB604AC328DC75152182C091AF\n100 100 0 0 0 0 - 2?\n",
         );
-        // No line ends inside the second group.
+        // No line ends inside the second group, or inside the third.
         for length in [base.len() - 1 + 2, 206, 207, 209, 210] {
             let order = format!("{base}{keys}F90000");
             check(
@@ -511,6 +520,89 @@ mod tests {
             &format!("{refused}{keys}1F\n90F50000010000\n9071000002020000"),
             "!1\n0000FFFF0001009100\n66E94BD4EF8A2C3B884CFA59CA342B2E91AF\n",
         );
+    }
+
+    /// An order for the program's card with these numbers.
+    fn numbered(numbers: &str) -> String {
+        let base = "PEEEEEEEEEEEEEEEEEEEE00000000E80300006400000001";
+        format!("{base}{}{numbers}", "0".repeat(2 * KEY_GROUP))
+    }
+
+    #[test]
+    fn numbers_of_files() {
+        let own = numbered("051E02100F");
+        assert_eq!(own.len(), 1 + 218);
+        check(
+            &format!(
+                "{own}\n906C0000011000\n906C0000010300\n90DC000005101E00000000\n90C7000000\n\
+                 90F50000010500\n90F50000011E00\n90F50000010200\n90F50000011000\n\
+                 90F50000010F00\nB"
+            ),
+            "!0\n640000009100\n91F0\n9100\n9100\n\
+             0000EEEE0001009100\n0000EEEE0001009100\n0000EEEE2000009100\n\
+             0200EEEE00000000E80300001E000000019100\n0400EEEE1000000400000000009100\n\
+             70 70 30 30 0 0 - -\n",
+        );
+        check(
+            &format!(
+                "{}\n906C0000010300",
+                own.to_lowercase().replacen('p', "P", 1)
+            ),
+            "!0\n91F0\n",
+        );
+        // A chain on a file of its own number.
+        check(
+            &format!(
+                "{own}\nC908D0000071E00000003000000\nD0102\nB\nD03\n90AD0000071E00000004000000"
+            ),
+            "!0\n\n\n100 100 0 0 0 0 w -\n9100\n010203009100\n",
+        );
+    }
+
+    #[test]
+    fn numbers_that_are_refused_leave_the_old_ones() {
+        for (numbers, answer) in [
+            ("20041F0301", "!7"),
+            ("00041F03FF", "!7"),
+            ("0404200301", "!7"),
+            ("04041F0301", "!8"),
+            ("00041F0300", "!8"),
+        ] {
+            check(
+                &format!("{}\n90F50000011F00\n90F50000010300\nB", numbered(numbers)),
+                &format!(
+                    "{answer}\n0000FFFF2000009100\n\
+                     0200FFFF000000000000000000000000009100\n0 0 0 0 0 0 - -\n"
+                ),
+            );
+        }
+        // After the others.
+        let wrong = numbered("2020202020");
+        check(&wrong.replacen("PEEEE", "PEE5E", 1), "!1\n");
+        check(
+            &wrong.replacen("00000000E8030000", "E9030000E8030000", 1),
+            "!2\n",
+        );
+        check(&wrong.replacen("64000000", "E9030000", 1), "!3\n");
+    }
+
+    #[test]
+    fn shorter_orders_have_the_old_numbers_again() {
+        let own = numbered("051E02100F");
+        for length in [46, 208] {
+            check(
+                &format!("{own}\n{}\n906C0000010300\n906C0000011000", &own[..=length]),
+                "!0\n!0\n640000009100\n91F0\n",
+            );
+        }
+        // No order ends elsewhere, and the card is the one before.
+        for length in [209, 210, 212, 214, 216, 217, 219, 220, 222, 228] {
+            let order = own.clone() + &"0".repeat(10);
+            check(
+                &format!("{own}\n{}\n906C0000011000", &order[..=length]),
+                "!0\n?\n640000009100\n",
+            );
+        }
     }
 
     #[test]

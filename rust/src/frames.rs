@@ -36,19 +36,12 @@ pub mod ins {
         SECOND_PART,
     ];
     pub const WITH_AMOUNT: [u8; 3] = [CREDIT, DEBIT, LIMITED_CREDIT];
+    pub const WITHOUT_FILE: [u8; 4] = [COMMIT, ABORT, FIRST_PART, SECOND_PART];
 
     /// The place of an instruction in [`ALL`].
     pub fn place(instruction: u8) -> Option<usize> {
         ALL.iter().position(|&known| known == instruction)
     }
-}
-
-/// The file numbers, in the order of a personalisation's rights.
-pub const FILES: [u8; 5] = [0x00, 0x04, 0x1F, 0x03, 0x01];
-
-/// The place of a file in that order.
-pub fn file_place(file: u8) -> Option<usize> {
-    FILES.iter().position(|&number| number == file)
 }
 
 /// The largest figure of three bytes.

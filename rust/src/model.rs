@@ -8,8 +8,10 @@
 //! [`Card::file_frame`]).
 
 mod chain;
+mod roles;
 
 pub use chain::{Chain, LONGEST_FILE_FRAME};
+pub use roles::{DataRole, Numbers, Role, DATA_FILES, FILES, HIGHEST_NUMBER};
 
 use crate::aes::Block;
 use crate::messaging::{
@@ -54,6 +56,10 @@ pub enum BenchRefusal {
     KeyNumber,
     /// The reply buffer is shorter than 258 bytes.
     ReplyRoom,
+    /// A file number is above 1Fh (request 09).
+    NumberTooHigh,
+    /// Two files have the same number (request 09).
+    NumberTwice,
 }
 
 impl BenchRefusal {
@@ -65,6 +71,8 @@ impl BenchRefusal {
             Self::ValueOutside => 3,
             Self::KeyNumber => 4,
             Self::ReplyRoom => 5,
+            Self::NumberTooHigh => 7,
+            Self::NumberTwice => 8,
         }
     }
 }
@@ -91,7 +99,7 @@ pub enum Refusal {
     /// Place 6: data field of the wrong length; fewer than eight bytes where a
     /// MAC comes off; a file frame of no bytes, too many, or more than are left.
     DataLength,
-    /// Place 7: file number not in the file table.
+    /// Place 7: no file of the card has the number.
     FileNumber,
     /// Place 8: file of another kind, or every granting condition is Fh.
     KindOrNever,
@@ -280,8 +288,8 @@ impl Guard {
 /// What personalisation gives ("The files").
 #[derive(Clone, Copy, Debug, PartialEq, Eq)]
 pub struct Personalisation {
-    /// The rights of the files 00h, 04h, 1Fh, 03h and 01h, in this order.
-    pub rights: [u16; 5],
+    /// The rights of the files, in the order of [`Role::ALL`].
+    pub rights: [u16; FILES],
     /// The value file's lower limit.
     pub lower: i32,
     /// The value file's upper limit.
@@ -295,22 +303,26 @@ pub struct Personalisation {
     /// The keys 0 to 4 (request 06).
     pub keys: [Block; KEYS],
     /// The modes of the files, in the order of their rights (request 06).
-    pub modes: [Mode; 5],
+    pub modes: [Mode; FILES],
+    /// The numbers of the files (request 09).
+    pub numbers: Numbers,
 }
 
 /// The keys of the program's card and of the blank one.
 const ZERO_KEYS: [Block; KEYS] = [[0; 16]; KEYS];
 
-/// The card of the section "Transcript program", with zero keys and plain modes.
+/// The card of the section "Transcript program", with zero keys, plain modes and
+/// the sheet's numbers.
 pub const PROGRAM_CARD: Personalisation = Personalisation {
-    rights: [0xEEEE; 5],
+    rights: [0xEEEE; FILES],
     lower: 0,
     upper: 1000,
     value: 100,
     limited_credit: true,
     free_get_value: false,
     keys: ZERO_KEYS,
-    modes: [Mode::Plain; 5],
+    modes: [Mode::Plain; FILES],
+    numbers: Numbers::DEFAULT,
 };
 
 /// What the bench hands in with an event (request 06).
@@ -320,31 +332,6 @@ pub struct Inputs {
     pub random: Block,
     /// The transaction identifier, which a first part takes too.
     pub transaction: TransactionId,
-}
-
-/// A file as the file table names it ("The files").
-#[derive(Clone, Copy, Debug, PartialEq, Eq)]
-enum FileName {
-    /// A standard data file, by its place in [`Card::data`].
-    Data(usize),
-    /// The value file.
-    Value,
-    /// The cyclic log.
-    Log,
-}
-
-impl FileName {
-    /// Place 7: the file of a file number.
-    fn from_number(number: u8) -> Result<Self, Refusal> {
-        match number {
-            0x00 => Ok(Self::Data(0)),
-            0x04 => Ok(Self::Data(1)),
-            0x1F => Ok(Self::Data(2)),
-            0x03 => Ok(Self::Value),
-            0x01 => Ok(Self::Log),
-            _ => Err(Refusal::FileNumber),
-        }
-    }
 }
 
 /// A standard data file.
@@ -850,10 +837,12 @@ fn read_range(start: usize, count: usize, size: usize) -> Result<Range<usize>, R
 /// The card.
 #[derive(Clone, Debug, PartialEq, Eq)]
 pub struct Card {
-    /// The files 00h, 04h and 1Fh.
-    data: [DataFile; 3],
+    /// The data files, in the order of [`DataRole::ALL`].
+    data: [DataFile; DATA_FILES],
     value: ValueFile,
     log: LogFile,
+    /// What the files are called.
+    numbers: Numbers,
     keys: [Block; KEYS],
     session: Session,
     pending: Pending,
@@ -862,15 +851,12 @@ pub struct Card {
 }
 
 impl Card {
-    /// Bytes in the files 00h, 04h and 1Fh ("The files").
-    pub const DATA_SIZES: [usize; 3] = [256, 256, 32];
-
     /// The blank card ("Events"): the one beside a refused personalisation.
     pub fn blank() -> Self {
         Self {
-            data: Self::DATA_SIZES.map(|size| DataFile {
+            data: DataRole::ALL.map(|role| DataFile {
                 guard: Guard::BLANK,
-                bytes: vec![0; size],
+                bytes: vec![0; role.size()],
             }),
             value: ValueFile {
                 guard: Guard::BLANK,
@@ -885,6 +871,7 @@ impl Card {
                 guard: Guard::BLANK,
                 entries: VecDeque::with_capacity(LOG_ENTRIES + 1),
             },
+            numbers: Numbers::DEFAULT,
             keys: ZERO_KEYS,
             session: Session::None,
             pending: Pending::default(),
@@ -892,21 +879,13 @@ impl Card {
         }
     }
 
-    /// Personalisation ("The files"), with the bench refusals 1, 2, 3 tested in
-    /// that order ("Events").
+    /// Personalisation ("The files"), with the bench refusals 1, 2, 3, 7 and 8
+    /// tested in that order ("Events", request 09).
     pub fn personalise(with: &Personalisation) -> Result<Self, BenchRefusal> {
         let mut card = Self::blank();
-        let [file_00, file_04, file_1f] = &mut card.data;
-        let guards = [
-            &mut file_00.guard,
-            &mut file_04.guard,
-            &mut file_1f.guard,
-            &mut card.value.guard,
-            &mut card.log.guard,
-        ];
-        for ((guard, word), mode) in guards.into_iter().zip(with.rights).zip(with.modes) {
+        for ((role, word), mode) in Role::ALL.into_iter().zip(with.rights).zip(with.modes) {
             let rights = Rights::from_word(word)?;
-            *guard = Guard { rights, mode };
+            *card.guard_mut(role) = Guard { rights, mode };
         }
         if with.lower > with.upper {
             return Err(BenchRefusal::LimitsCrossed);
@@ -914,11 +893,13 @@ impl Card {
         if !(with.lower..=with.upper).contains(&with.value) {
             return Err(BenchRefusal::ValueOutside);
         }
+        with.numbers.check()?;
         card.value.lower = with.lower;
         card.value.upper = with.upper;
         card.value.value = with.value;
         card.value.limited_credit = with.limited_credit;
         card.value.free_get_value = with.free_get_value;
+        card.numbers = with.numbers;
         card.keys = with.keys;
         Ok(card)
     }
@@ -1121,20 +1102,20 @@ impl Card {
 
     /// Whether a command with this data field, as sent, is in MAC mode (request
     /// 06): under a session of AuthenticateEV2First, commit, abort and
-    /// GetFileSettings always are, the others when their first byte names a
-    /// file of that mode, unless a free condition alone grants them.
+    /// GetFileSettings always are, the others when their first byte is
+    /// the number of a file of that mode, unless a free condition alone grants them.
     fn in_mac_mode(&self, instruction: Instruction, data: &[u8]) -> bool {
         if !matches!(self.session, Session::Real(_)) {
             return false;
         }
         match instruction {
             Instruction::Commit | Instruction::Abort | Instruction::GetFileSettings => true,
-            _ => match data.first().map(|&number| FileName::from_number(number)) {
-                Some(Ok(file)) => {
-                    self.guard(file).mode == Mode::Mac
-                        && self.access(instruction, file) != Access::FreeOnly
+            _ => match data.first().and_then(|&number| self.numbers.role(number)) {
+                Some(role) => {
+                    self.guard(role).mode == Mode::Mac
+                        && self.access(instruction, role) != Access::FreeOnly
                 }
-                _ => false,
+                None => false,
             },
         }
     }
@@ -1142,7 +1123,7 @@ impl Card {
     /// The access decision for a command and a file of any kind (request 03).
     /// Free GetValue counts as a free condition of that command, unless R, W and
     /// RW are all Fh.
-    fn access(&self, instruction: Instruction, file: FileName) -> Access {
+    fn access(&self, instruction: Instruction, role: Role) -> Access {
         let session = self.session.key();
         let by_condition = |condition| match condition {
             Condition::Key(key) if session == Some(key) => Access::ByKey,
@@ -1151,7 +1132,7 @@ impl Card {
             Condition::Never => Access::Never,
         };
         let [a, b, c] = instruction
-            .granted_by(self.guard(file).rights)
+            .granted_by(self.guard(role).rights)
             .map(by_condition);
         let access = a.max(b).max(c);
         let free = instruction == Instruction::GetValue && self.value.free_get_value;
@@ -1162,8 +1143,8 @@ impl Card {
     }
 
     /// Places 8 (second half) and 9.
-    fn check_access(&self, instruction: Instruction, file: FileName) -> Result<(), Refusal> {
-        match self.access(instruction, file) {
+    fn check_access(&self, instruction: Instruction, role: Role) -> Result<(), Refusal> {
+        match self.access(instruction, role) {
             Access::Never => Err(Refusal::KindOrNever),
             Access::NotGranted => Err(Refusal::NotGranted),
             Access::FreeOnly | Access::ByKey => Ok(()),
@@ -1171,8 +1152,8 @@ impl Card {
     }
 
     /// Places 8 (second half), 9 and 9a.
-    fn check_granted(&self, order: &Order, file: FileName) -> Result<(), Refusal> {
-        self.check_access(order.instruction, file)?;
+    fn check_granted(&self, order: &Order, role: Role) -> Result<(), Refusal> {
+        self.check_access(order.instruction, role)?;
         self.check_integrity(order)
     }
 
@@ -1265,39 +1246,51 @@ impl Card {
     }
 
     /// What personalisation fixed for a file.
-    fn guard(&self, file: FileName) -> &Guard {
-        match file {
-            FileName::Data(index) => &self.data[index].guard,
-            FileName::Value => &self.value.guard,
-            FileName::Log => &self.log.guard,
+    fn guard(&self, role: Role) -> &Guard {
+        match role {
+            Role::Data(role) => &self.data[role.place()].guard,
+            Role::Value => &self.value.guard,
+            Role::Log => &self.log.guard,
         }
     }
 
-    /// Places 7 to 9a for the commands of data files: the file's place in
-    /// [`Card::data`].
-    fn data_file(&self, order: &Order, number: u8) -> Result<usize, Refusal> {
-        match FileName::from_number(number)? {
-            FileName::Data(index) => {
-                self.check_granted(order, FileName::Data(index))?;
-                Ok(index)
+    fn guard_mut(&mut self, role: Role) -> &mut Guard {
+        match role {
+            Role::Data(role) => &mut self.data[role.place()].guard,
+            Role::Value => &mut self.value.guard,
+            Role::Log => &mut self.log.guard,
+        }
+    }
+
+    /// Place 7: the file that has a number.
+    fn named(&self, number: u8) -> Result<Role, Refusal> {
+        self.numbers.role(number).ok_or(Refusal::FileNumber)
+    }
+
+    /// Places 7 to 9a for the commands of data files.
+    fn data_file(&self, order: &Order, number: u8) -> Result<DataRole, Refusal> {
+        match self.named(number)? {
+            Role::Data(role) => {
+                self.check_granted(order, Role::Data(role))?;
+                Ok(role)
             }
-            _ => Err(Refusal::KindOrNever),
+            Role::Value | Role::Log => Err(Refusal::KindOrNever),
         }
     }
 
     /// Places 7 to 9a for the commands of the value file.
     fn value_file(&self, order: &Order, number: u8) -> Result<(), Refusal> {
-        match FileName::from_number(number)? {
-            FileName::Value => self.check_granted(order, FileName::Value),
-            _ => Err(Refusal::KindOrNever),
+        match self.named(number)? {
+            Role::Value => self.check_granted(order, Role::Value),
+            Role::Data(_) | Role::Log => Err(Refusal::KindOrNever),
         }
     }
 
     /// Places 7 to 9a for the commands of the log.
     fn log_file(&self, order: &Order, number: u8) -> Result<(), Refusal> {
-        match FileName::from_number(number)? {
-            FileName::Log => self.check_granted(order, FileName::Log),
-            _ => Err(Refusal::KindOrNever),
+        match self.named(number)? {
+            Role::Log => self.check_granted(order, Role::Log),
+            Role::Data(_) | Role::Value => Err(Refusal::KindOrNever),
         }
     }
 
@@ -1310,7 +1303,7 @@ impl Card {
         length: usize,
         reply: &mut [u8],
     ) -> Result<usize, Refusal> {
-        let file = &self.data[self.data_file(order, number)?];
+        let file = &self.data[self.data_file(order, number)?.place()];
         let bytes = &file.bytes[read_range(offset, length, file.bytes.len())?];
         if order.mac.is_some() && bytes.len() > LONGEST_MAC_READ {
             return Err(Refusal::Boundary);
@@ -1327,8 +1320,8 @@ impl Card {
         offset: usize,
         bytes: &[u8],
     ) -> Result<(), Refusal> {
-        let index = self.data_file(order, number)?;
-        let file = &mut self.data[index];
+        let role = self.data_file(order, number)?;
+        let file = &mut self.data[role.place()];
         let range = write_range(offset, bytes.len(), file.bytes.len())?;
         file.bytes[range].copy_from_slice(bytes);
         Ok(())
@@ -1496,27 +1489,27 @@ impl Card {
 
     /// GetFileSettings (request 02): no access condition, so of places 8 to 13
     /// only 9a is asked. File kind, option byte with the mode, rights, then what
-    /// the kind has.
+    /// the kind has; the number is not told.
     fn get_file_settings(
         &self,
         order: &Order,
         number: u8,
         reply: &mut [u8],
     ) -> Result<usize, Refusal> {
-        let name = FileName::from_number(number)?;
+        let role = self.named(number)?;
         self.check_integrity(order)?;
         let mut settings = Vec::new();
         let mut head = |kind: u8, guard: Guard| {
             settings.extend_from_slice(&[kind, guard.mode.option_byte()]);
             settings.extend_from_slice(&guard.rights.word().to_le_bytes());
         };
-        match name {
-            FileName::Data(index) => {
-                let file = &self.data[index];
+        match role {
+            Role::Data(role) => {
+                let file = &self.data[role.place()];
                 head(0x00, file.guard);
                 settings.extend_from_slice(&bytes3(file.bytes.len()));
             }
-            FileName::Value => {
+            Role::Value => {
                 let file = &self.value;
                 head(0x02, file.guard);
                 for figure in [file.lower, file.upper, file.allowance] {
@@ -1525,7 +1518,7 @@ impl Card {
                 let switches = [file.limited_credit, file.free_get_value].map(u8::from);
                 settings.push(switches[0] | switches[1] << 1);
             }
-            FileName::Log => {
+            Role::Log => {
                 head(0x04, self.log.guard);
                 for figure in [ENTRY_SIZE, LOG_ENTRIES, self.log.entries.len()] {
                     settings.extend_from_slice(&bytes3(figure));
@@ -1572,25 +1565,19 @@ impl Card {
         (self.value.lower, self.value.upper)
     }
 
-    /// The rights of the files 00h, 04h, 1Fh, 03h and 01h, in this order.
-    pub fn rights(&self) -> [Rights; 5] {
-        self.guards().map(|guard| guard.rights)
+    /// The rights of a file.
+    pub fn rights(&self, role: Role) -> Rights {
+        self.guard(role).rights
     }
 
-    /// The modes of the files, in the same order.
-    pub fn modes(&self) -> [Mode; 5] {
-        self.guards().map(|guard| guard.mode)
+    /// The mode of a file.
+    pub fn mode(&self, role: Role) -> Mode {
+        self.guard(role).mode
     }
 
-    fn guards(&self) -> [Guard; 5] {
-        let [file_00, file_04, file_1f] = &self.data;
-        [
-            file_00.guard,
-            file_04.guard,
-            file_1f.guard,
-            self.value.guard,
-            self.log.guard,
-        ]
+    /// The numbers of the files.
+    pub fn numbers(&self) -> &Numbers {
+        &self.numbers
     }
 
     /// The session.
@@ -1612,6 +1599,8 @@ impl Card {
 
 #[cfg(test)]
 mod chain_tests;
+#[cfg(test)]
+mod number_tests;
 #[cfg(test)]
 mod session_tests;
 #[cfg(test)]

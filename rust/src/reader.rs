@@ -82,6 +82,8 @@ impl Card {
             b"!1" => "a rights nibble is 5 to Dh",
             b"!2" => "the lower limit is above the upper",
             b"!3" => "the starting value is outside the limits",
+            b"!7" => "a file number is above 1Fh",
+            b"!8" => "two files have the same number",
             _ => "it has not the digits of a P line",
         };
         Err(format!("the order is refused: {why}"))

@@ -9,6 +9,7 @@ mod commands;
 mod counting;
 mod ends;
 mod lines;
+mod numbers;
 mod sessions;
 
 pub use chains::FrameFault;
@@ -16,8 +17,8 @@ pub use ends::ENDS;
 pub use sessions::SealFault;
 
 use crate::bench::Bench;
-use crate::frames::{file_place, hex_line, Script};
-use crate::model::{Accepted, Condition, Refusal, REPLY_ROOM};
+use crate::frames::{hex_line, Script};
+use crate::model::{Accepted, Condition, DataRole, Refusal, Role, REPLY_ROOM};
 use crate::ring::Ring;
 use crate::rng::Rng;
 use crate::tally::{LastEvent, LineSort, Tally};
@@ -274,7 +275,8 @@ impl Writer {
 
     /// Whether no command on a file can ever be granted.
     fn is_blank(&self) -> bool {
-        self.bench.card().rights().iter().all(|rights| {
+        Role::ALL.iter().all(|&role| {
+            let rights = self.bench.card().rights(role);
             [rights.read, rights.write, rights.read_write]
                 .iter()
                 .all(|&condition| condition == Condition::Never)
@@ -391,9 +393,10 @@ impl Writer {
         }
     }
 
-    /// A session with a key that the rights of a file name.
-    fn useful_session(&mut self, file: u8) {
-        let rights = self.bench.card().rights()[file_place(file).unwrap_or(0)];
+    /// A session with a key that the rights of the file of a number name.
+    fn useful_session(&mut self, number: u8) {
+        let role = self.role(number).unwrap_or(Role::Data(DataRole::FirstLong));
+        let rights = self.bench.card().rights(role);
         let keys: Vec<u8> = [rights.read, rights.write, rights.read_write]
             .iter()
             .filter_map(|&condition| match condition {
@@ -523,6 +526,41 @@ mod tests {
         assert!(tally.mac_reads[2..].iter().sum::<u64>() >= 2, "{tally}");
         assert!(tally.mac_reads_to_end >= 5, "{tally}");
         assert!(tally.highest_counter >= 100, "{tally}");
+    }
+
+    #[test]
+    fn scripts_meet_own_numbers_often() {
+        let mut writer = Writer::new(8);
+        while writer.tally.events() < 200_000 {
+            writer.script(3000);
+        }
+        let tally = &writer.tally;
+        println!("{tally}");
+        let orders: u64 = tally.personalisations.iter().sum();
+        let [others, exchanged] = tally.own_numbers;
+        // A quarter of all orders, refused ones included.
+        assert!(4 * (others + exchanged) >= orders, "{tally}");
+        assert!(others >= 50 && exchanged >= 200, "{tally}");
+        assert!(tally.personalisations.iter().all(|&n| n >= 20), "{tally}");
+        assert!(tally.high_and_twice >= 5, "{tally}");
+        assert!(tally.hidden_numbers >= 10, "{tally}");
+        // Commands that name a file: plain ones, and with a MAC.
+        for counts in tally.by_own_number {
+            for (&instruction, &count) in ins::ALL.iter().zip(&counts) {
+                match ins::WITHOUT_FILE.contains(&instruction) {
+                    true => assert_eq!(count, 0, "{tally}"),
+                    false => assert!(count >= 50, "{tally}"),
+                }
+            }
+        }
+        assert!(tally.own_chains.iter().all(|&n| n >= 200), "{tally}");
+        assert!(tally.old_for_another >= 1000, "{tally}");
+        assert!(tally.old_unknown[0] >= 30, "{tally}");
+        assert!(tally.old_unknown[1] >= 3, "{tally}");
+        assert!(
+            tally.old_of_another_kind.iter().all(|&n| n >= 10),
+            "{tally}"
+        );
     }
 
     #[test]

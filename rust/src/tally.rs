@@ -1,9 +1,12 @@
 //! What scripts contain.
 
 use crate::frames::ins;
-use crate::model::{Books, Refusal, KEYS, LOG_ENTRIES, ROWS};
+use crate::model::{Books, Refusal, DATA_FILES, FILES, KEYS, LOG_ENTRIES, ROWS};
 use crate::scripts::{FrameFault, SealFault};
 use std::fmt::{self, Display, Formatter};
+
+/// What a personalisation prints: 0, or the number of the bench refusal.
+pub const ORDER_OUTCOMES: [u8; 6] = [0, 1, 2, 3, 7, 8];
 
 /// What the scripts written so far contain.
 #[derive(Clone, Debug, Default)]
@@ -18,8 +21,8 @@ pub struct Tally {
     pub sessions: u64,
     /// Power-ups.
     pub power_ups: u64,
-    /// Personalisations, by the number printed.
-    pub personalisations: [u64; 4],
+    /// Personalisations, by the number printed, as [`ORDER_OUTCOMES`] has them.
+    pub personalisations: [u64; ORDER_OUTCOMES.len()],
     /// `R` lines.
     pub rooms: u64,
     /// `B` lines.
@@ -32,8 +35,8 @@ pub struct Tally {
     pub places: [u64; ROWS],
     /// Amounts of 0 refused for that, in Credit, Debit and LimitedCredit.
     pub zero_amounts: [u64; 3],
-    /// Accepted GetFileSettings of the files 00h, 04h, 1Fh, 03h and 01h.
-    pub settings: [u64; 5],
+    /// Accepted GetFileSettings of each file, in the order of a personalisation.
+    pub settings: [u64; FILES],
     /// Those of a file whose R, W and RW are all Fh.
     pub sealed_settings: u64,
     /// Refused ones, by the place of the order of checks.
@@ -53,6 +56,27 @@ pub struct Tally {
     pub inputs: u64,
     /// Personalisations with keys and modes.
     pub with_keys: u64,
+    /// Personalisations with numbers too.
+    pub with_numbers: u64,
+    /// Accepted ones with others than the sheet's: none of the sheet's numbers is
+    /// another file's, and some are.
+    pub own_numbers: [u64; 2],
+    /// Those refused with 7 in which two numbers are equal as well.
+    pub high_and_twice: u64,
+    /// Those refused with 1, 2 or 3 whose numbers are wrong as well.
+    pub hidden_numbers: u64,
+    /// Accepted commands on a file whose number is not the sheet's, in the order
+    /// of the command table: plain ones, and those in MAC mode.
+    pub by_own_number: [[u64; 14]; 2],
+    /// Chains opened on such a data file.
+    pub own_chains: [u64; DATA_FILES],
+    /// Of both, those by a number that is another file's in the sheet.
+    pub old_for_another: u64,
+    /// Commands and openings refused at place 7 that name a file by the sheet.
+    pub old_unknown: [u64; 2],
+    /// Those refused at place 8 by a number that is a file's of another kind in
+    /// the sheet.
+    pub old_of_another_kind: [u64; 2],
     /// Lines between the two parts of an authentication, by their sort.
     pub between: [u64; LineSort::ALL.len()],
     /// Sessions of AuthenticateEV2First by their key.
@@ -81,8 +105,8 @@ pub struct Tally {
     /// Openings and file frames refused by the bench for want of room.
     pub chains_no_room: [u64; 2],
     /// Chains opened under no session, one of the bench and one of
-    /// AuthenticateEV2First, each on the files 00h, 04h and 1Fh.
-    pub chains: [[u64; 3]; 3],
+    /// AuthenticateEV2First, each on the three data files.
+    pub chains: [[u64; DATA_FILES]; 3],
     /// Those under the last on a file in MAC mode: a free condition alone grants
     /// them.
     pub free_chains: u64,
@@ -381,6 +405,38 @@ impl Tally {
         )
     }
 
+    /// What numbers of files brought.
+    fn fmt_numbers(&self, f: &mut Formatter) -> fmt::Result {
+        let outcomes = ORDER_OUTCOMES;
+        write_counts(
+            f,
+            "personalisations by outcome",
+            outcomes,
+            self.personalisations,
+        )?;
+        let [others, exchanged] = self.own_numbers;
+        writeln!(
+            f,
+            "P with numbers {}, accepted with own ones {}, of them with a number of the sheet for \
+             another file {}; refused with 7 and equal ones too {}, with 1 to 3 and wrong ones too {}",
+            self.with_numbers,
+            others + exchanged,
+            exchanged,
+            self.high_and_twice,
+            self.hidden_numbers
+        )?;
+        let instructions = || ins::ALL.map(|byte| format!("{byte:02X}"));
+        let [plain, maced] = self.by_own_number;
+        write_counts(f, "by own number, plain", instructions(), plain)?;
+        write_counts(f, "by own number, with a MAC", instructions(), maced)?;
+        writeln!(
+            f,
+            "chains by own number {:?}; by a number of the sheet for another file {}; of the sheet \
+             and 91F0 {:?}, and a file of another kind {:?}",
+            self.own_chains, self.old_for_another, self.old_unknown, self.old_of_another_kind
+        )
+    }
+
     /// What was asked about the log's slots.
     fn fmt_slots(&self, f: &mut Formatter) -> fmt::Result {
         let events = LastEvent::ALL.map(|event| format!("{event:?}"));
@@ -427,13 +483,13 @@ impl Display for Tally {
         writeln!(
             f,
             "lines {}: commands {} and {} without room, sessions {}, power-ups {}, \
-             personalisations {:?}, R {}, B {}, L {}, ? {}",
+             personalisations {}, R {}, B {}, L {}, ? {}",
             self.lines,
             self.commands,
             self.no_room,
             self.sessions,
             self.power_ups,
-            self.personalisations,
+            self.personalisations.iter().sum::<u64>(),
             self.rooms,
             self.books,
             self.asked.iter().sum::<u64>(),
@@ -461,6 +517,7 @@ impl Display for Tally {
             "amounts of 0 {:?}, entries pushed out {}, Debit sums held {}, long transactions {}",
             self.zero_amounts, self.pushed_out, self.held_sums, self.long_transactions
         )?;
+        self.fmt_numbers(f)?;
         self.fmt_sessions(f)?;
         self.fmt_chains(f)?;
         self.fmt_slots(f)

@@ -5,7 +5,7 @@ use crate::frames::{
     amount_frame, frame, hex_line, ins, read_frame, write_frame, Script, LONGEST_WRITE,
 };
 use crate::messaging::{self, Capabilities, FirstPart, RealSession};
-use crate::model::{ENTRY_SIZE, LONGEST_MAC_READ};
+use crate::model::{Numbers, ENTRY_SIZE, LONGEST_MAC_READ};
 use crate::rng::Rng;
 use crate::terminal;
 
@@ -71,7 +71,7 @@ impl SpeedKind {
     }
 }
 
-/// The personalisation line for timing: rights EEEEh but for file 1Fh, which
+/// The personalisation line for timing: rights EEEEh but for the short file, which
 /// asks for key 0 to read and write, and whose ReadWrite is Fh; limits 0 and
 /// 1,000,000,000, value 500,000,000, LimitedCredit on.
 const SPEED_CARD: &[u8] = b"PEEEEEEEEFF00EEEEEEEE0000000000CA9A3B0065CD1D01";
@@ -90,6 +90,13 @@ const MAC_CARD: &[u8] = b"P000000000000000000000000000000CA9A3B0065CD1D01\
 const MAC_KEY: Block = [
     0xA0, 0xA1, 0xA2, 0xA3, 0xA4, 0xA5, 0xA6, 0xA7, 0xA8, 0xA9, 0xAA, 0xAB, 0xAC, 0xAD, 0xAE, 0xAF,
 ];
+
+/// What the files of both are called.
+const OF: Numbers = Numbers::DEFAULT;
+/// The long data files.
+const LONG_FILES: [u8; 2] = [OF.first_long, OF.second_long];
+/// A number that no file has.
+const UNKNOWN_NUMBER: u8 = 0x07;
 
 /// Commands with MACs before the next authentication, which the command counter
 /// has room for.
@@ -119,14 +126,14 @@ fn plain_script(kind: SpeedKind, lines: usize, seed: u64) -> Vec<Vec<u8>> {
     let mut rng = Rng::new(seed);
     let mut script = vec![SPEED_CARD.to_vec()];
     if kind == SpeedKind::Reads {
-        for file in [0x00, 0x04] {
+        for file in LONG_FILES {
             let bytes = rng.some_bytes(LONGEST_WRITE as usize);
             let write = write_frame(ins::WRITE_DATA, file, 8, LONGEST_WRITE, &bytes);
             script.push(hex_line(b"", &write));
         }
         for _ in 0..4 {
             let bytes = rng.some_bytes(ENTRY_SIZE);
-            let write = write_frame(ins::WRITE_RECORD, 0x01, 0, ENTRY_SIZE as u64, &bytes);
+            let write = write_frame(ins::WRITE_RECORD, OF.log, 0, ENTRY_SIZE as u64, &bytes);
             script.push(hex_line(b"", &write));
             script.push(hex_line(b"", &frame(ins::COMMIT, &[])));
         }
@@ -149,7 +156,7 @@ fn plain_script(kind: SpeedKind, lines: usize, seed: u64) -> Vec<Vec<u8>> {
 fn mac_script(kind: SpeedKind, lines: usize, seed: u64) -> Vec<Vec<u8>> {
     let mut rng = Rng::new(seed);
     let mut script = vec![MAC_CARD.to_vec(), b"S00".to_vec()];
-    for file in [0x00, 0x04] {
+    for file in LONG_FILES {
         let bytes = rng.some_bytes(LONGEST_WRITE as usize);
         let write = write_frame(ins::WRITE_DATA, file, 8, LONGEST_WRITE, &bytes);
         script.push(hex_line(b"", &write));
@@ -202,21 +209,21 @@ fn with_mac(session: &mut RealSession, plain: &[u8]) -> Vec<u8> {
 
 /// A read of as much as has room beside a MAC.
 fn speed_mac_read(rng: &mut Rng) -> Vec<u8> {
-    let file = rng.pick(&[0x00, 0x04]);
+    let file = rng.pick(&LONG_FILES);
     let length = LONGEST_MAC_READ as u64;
     read_frame(ins::READ_DATA, file, rng.below(256 - length + 1), length)
 }
 
 fn speed_read(rng: &mut Rng) -> Vec<u8> {
     match rng.below(4) {
-        0 => frame(ins::GET_VALUE, &[0x03]),
+        0 => frame(ins::GET_VALUE, &[OF.value]),
         1 => {
             let entry = rng.below(4);
             let count = rng.below(5 - entry);
-            read_frame(ins::READ_RECORDS, 0x01, entry, count)
+            read_frame(ins::READ_RECORDS, OF.log, entry, count)
         }
         _ => {
-            let file = rng.pick(&[0x00, 0x04]);
+            let file = rng.pick(&LONG_FILES);
             let offset = rng.below(256);
             let length = rng.below(257 - offset).min(rng.pick(&[16, 32, 256]));
             read_frame(ins::READ_DATA, file, offset, length)
@@ -228,10 +235,10 @@ fn speed_read(rng: &mut Rng) -> Vec<u8> {
 /// Debit of 100 to 199 in each transaction keeps the allowance at or above 100.
 fn speed_value(rng: &mut Rng, at: usize) -> Vec<u8> {
     match at % 5 {
-        0 => amount_frame(ins::DEBIT, 0x03, 100 + rng.below(100) as u32),
+        0 => amount_frame(ins::DEBIT, OF.value, 100 + rng.below(100) as u32),
         // The first transaction finds no allowance.
-        3 if at >= 5 => amount_frame(ins::LIMITED_CREDIT, 0x03, 1 + rng.below(50) as u32),
-        1..=3 => amount_frame(ins::CREDIT, 0x03, 1 + rng.below(100) as u32),
+        3 if at >= 5 => amount_frame(ins::LIMITED_CREDIT, OF.value, 1 + rng.below(50) as u32),
+        1..=3 => amount_frame(ins::CREDIT, OF.value, 1 + rng.below(100) as u32),
         _ => frame(ins::COMMIT, &[]),
     }
 }
@@ -240,12 +247,12 @@ fn speed_value(rng: &mut Rng, at: usize) -> Vec<u8> {
 fn speed_log(rng: &mut Rng, at: usize) -> Vec<u8> {
     match at % 3 {
         2 => frame(ins::COMMIT, &[]),
-        1 if at / 3 % 16 == 15 => frame(ins::CLEAR_RECORD_FILE, &[0x01]),
+        1 if at / 3 % 16 == 15 => frame(ins::CLEAR_RECORD_FILE, &[OF.log]),
         _ => {
             let offset = rng.below(ENTRY_SIZE as u64);
             let length = 1 + rng.below(ENTRY_SIZE as u64 - offset);
             let bytes = rng.some_bytes(length as usize);
-            write_frame(ins::WRITE_RECORD, 0x01, offset, length, &bytes)
+            write_frame(ins::WRITE_RECORD, OF.log, offset, length, &bytes)
         }
     }
 }
@@ -255,7 +262,7 @@ fn speed_chain(rng: &mut Rng, at: usize) -> Vec<u8> {
     if at % 3 > 0 {
         return hex_line(b"D", &rng.some_bytes(CHAIN_FRAME));
     }
-    let file = rng.pick(&[0x00, 0x04]);
+    let file = rng.pick(&LONG_FILES);
     let length = 2 * CHAIN_FRAME as u64;
     let offset = rng.below(256 - length + 1);
     hex_line(b"C", &read_frame(ins::WRITE_DATA, file, offset, length))
@@ -264,19 +271,19 @@ fn speed_chain(rng: &mut Rng, at: usize) -> Vec<u8> {
 /// The thirteen places by turns; place 10 takes a clear before it.
 fn speed_refusal(rng: &mut Rng, at: usize) -> Vec<u8> {
     let amount = rng.below(1000) as u32;
-    let mut credit = amount_frame(ins::CREDIT, 0x03, amount);
+    let mut credit = amount_frame(ins::CREDIT, OF.value, amount);
     match at % 14 {
         0 => credit.truncate(rng.below(4) as usize + 1),
         1 => credit[0] = 0x80,
         2 => credit[2] = 0x01,
         3 => credit[4] += 1,
         4 => credit[1] = 0xFF,
-        5 => credit = frame(ins::GET_VALUE, &[0x03, 0x00]),
-        6 => credit[5] = 0x07,
-        7 => credit[5] = 0x01,
-        8 => credit = read_frame(ins::READ_DATA, 0x1F, rng.below(32), 0),
-        9 => credit = frame(ins::CLEAR_RECORD_FILE, &[0x01]),
-        10 => credit = write_frame(ins::WRITE_RECORD, 0x01, 0, 1, &[0x55]),
+        5 => credit = frame(ins::GET_VALUE, &[OF.value, 0x00]),
+        6 => credit[5] = UNKNOWN_NUMBER,
+        7 => credit[5] = OF.log,
+        8 => credit = read_frame(ins::READ_DATA, OF.short, rng.below(32), 0),
+        9 => credit = frame(ins::CLEAR_RECORD_FILE, &[OF.log]),
+        10 => credit = write_frame(ins::WRITE_RECORD, OF.log, 0, 1, &[0x55]),
         11 => credit[9] = 0x80,
         12 => credit[9] = 0x7F,
         _ => credit = frame(ins::COMMIT, &[]),

@@ -8,9 +8,14 @@
 
 use crate::frames::{amount_frame, frame, hex_line, ins, read_frame, write_frame, Script};
 use crate::hex::put_hex;
-use crate::model::{Entry, ENTRY_SIZE, LOG_ENTRIES};
+use crate::model::{Entry, Numbers, ENTRY_SIZE, LOG_ENTRIES};
 use crate::ring::{stored_by, Ring};
 use crate::rng::Rng;
+
+/// What the files of the program's card are called.
+const OF: Numbers = Numbers::DEFAULT;
+/// A number that none of them has.
+const UNKNOWN_NUMBER: u8 = 0x07;
 
 /// What the answer to a line has to be.
 #[derive(Clone, Copy, Debug, PartialEq, Eq)]
@@ -88,14 +93,14 @@ impl History {
     fn amount(&mut self) {
         let instruction = [ins::DEBIT, ins::CREDIT][self.amounts % 2];
         self.amounts += 1;
-        self.command(&amount_frame(instruction, 0x03, 1), "9100");
+        self.command(&amount_frame(instruction, OF.value, 1), "9100");
     }
 
     /// A new entry, which stores nothing yet.
     fn write(&mut self, rng: &mut Rng) -> Entry {
         let mut entry = [0; ENTRY_SIZE];
         entry.fill_with(|| rng.byte());
-        let write = write_frame(ins::WRITE_RECORD, 0x01, 0, ENTRY_SIZE as u64, &entry);
+        let write = write_frame(ins::WRITE_RECORD, OF.log, 0, ENTRY_SIZE as u64, &entry);
         self.command(&write, "9100");
         entry
     }
@@ -110,7 +115,7 @@ impl History {
     }
 
     fn clear(&mut self) {
-        self.command(&frame(ins::CLEAR_RECORD_FILE, &[0x01]), "9100");
+        self.command(&frame(ins::CLEAR_RECORD_FILE, &[OF.log]), "9100");
         self.commit(Due::Clear);
         self.clears += 1;
     }
@@ -125,7 +130,7 @@ impl History {
         self.write(rng);
         match rng.below(3) {
             0 => self.command(&frame(ins::ABORT, &[]), "9100"),
-            1 => self.command(&frame(ins::GET_VALUE, &[0x07]), "91F0"),
+            1 => self.command(&frame(ins::GET_VALUE, &[UNKNOWN_NUMBER]), "91F0"),
             _ => self.line(Vec::new(), Due::Answer("")),
         }
         self.line(b"L".to_vec(), Due::Nothing);
@@ -133,7 +138,7 @@ impl History {
     }
 
     fn read(&mut self) {
-        let read = read_frame(ins::READ_RECORDS, 0x01, 0, 0);
+        let read = read_frame(ins::READ_RECORDS, OF.log, 0, 0);
         self.line(hex_line(b"", &read), Due::Log);
     }
 }

@@ -74,6 +74,24 @@ fn refbench_plays_the_published_exchange() {
     );
 }
 
+/// The bench's own test, which the proved bench is held to as well.
+#[test]
+fn refbench_plays_the_script_of_the_bench() {
+    let root = Path::new(env!("CARGO_MANIFEST_DIR")).join("..");
+    let script = std::fs::read(root.join("crates/bench/stdin")).unwrap();
+    let expected = std::fs::read(root.join("crates/bench/stdout")).unwrap();
+    let mut child = Command::new(REFBENCH)
+        .stdin(Stdio::piped())
+        .stdout(Stdio::piped())
+        .spawn()
+        .unwrap();
+    let mut to_child = child.stdin.take().unwrap();
+    let writer = std::thread::spawn(move || to_child.write_all(&script).unwrap());
+    let output = child.wait_with_output().unwrap();
+    writer.join().unwrap();
+    assert!(output.stdout == expected, "the answers differ");
+}
+
 #[test]
 fn compare_finds_no_difference_in_refbench() {
     let output = Command::new(COMPARE)

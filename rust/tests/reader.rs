@@ -114,6 +114,18 @@ fn an_order_personalises_by_its_first_line() {
 }
 
 #[test]
+fn an_order_may_number_the_files() {
+    let folder = Folder::new("numbers");
+    let order = ORDER.to_owned() + &"0".repeat(162) + "051E02100F";
+    fs::write(folder.path("order"), &order).unwrap();
+    let reader = VirtualReader::new();
+    let _program = Program::start(&reader, &["--order", &folder.name("order")], &[REFBENCH]);
+    let mut slot = reader.accept();
+    assert_eq!(slot.reply("906C0000011000"), "460000009100");
+    assert_eq!(slot.reply(GET_VALUE), "91F0");
+}
+
+#[test]
 fn an_order_that_is_none_is_refused() {
     let folder = Folder::new("orders");
     let limits = ORDER.replace("00000000E8030000", "E803000000000000");
@@ -126,6 +138,14 @@ fn an_order_that_is_none_is_refused() {
         (
             ORDER.replace("46000000", "E9030000"),
             "the starting value is outside the limits",
+        ),
+        (
+            ORDER.to_owned() + &"0".repeat(162) + "2000010203",
+            "a file number is above 1Fh",
+        ),
+        (
+            ORDER.to_owned() + &"0".repeat(162) + "0001020300",
+            "two files have the same number",
         ),
         (ORDER[..20].to_owned(), "it has not the digits of a P line"),
         (

@@ -10,8 +10,10 @@ use lib.ListN.{length, drop, length-take}
 use mir.Syntax.{w32}
 use mir.Val.{ofZ}
 use native.Mathlib.Omega.{arith}
-use Rattle.tables.specs.Choice.{pick, none, picked, passed, pick-both, pick-alike, pick-cases, or-none, or-no}
+use Rattle.tables.specs.Choice.{pick, none, picked, passed, pick-both, pick-alike, pick-cases, or-no}
 use Rattle.wire.specs.Bytes.{four, outsideOf, word}
+use Rattle.roles.specs.declared.Role.{Role}
+use Rattle.roles.specs.Roles.{sizeOf}
 use Rattle.datafiles.specs.declared.Files.{Files}
 use Rattle.datafiles.specs.Files as files
 use Rattle.datafiles.specs.Laws as datafiles
@@ -23,10 +25,11 @@ use Rattle.purse.specs.Purse.{credited, debited, rebooked}
 use Rattle.logbook.specs.declared.Log.{Log}
 use Rattle.logbook.specs.Journal as journal
 use Rattle.logbook.specs.View as log
+use Rattle.logbook.specs.Laws.{entries-view}
 use Rattle.logbook.specs.Fit.{Fit}
 use Rattle.logbook.specs.FitLaws.{shown-room}
 use Rattle.records.specs.Shown as records
-use Rattle.frames.specs.Frame.{fileOf, offsetOf, lengthOf, amountOf}
+use Rattle.frames.specs.Frame.{offsetOf, lengthOf, amountOf}
 use Rattle.columns.specs.Table.{readData, getValue, credit, debit, limitedCredit, readRecords, getFileSettings, authenticateFirst, authenticateSecond, shows}
 use Rattle.keys.specs.declared.Keys.{Keys}
 use Rattle.channel.specs.declared.Channel.{Channel}
@@ -36,7 +39,6 @@ use Rattle.description.specs.Description.{described, describedIn}
 use Rattle.description.specs.Laws.{described-small}
 use Rattle.rows.specs.State.{Core, State}
 use Rattle.rows.specs.Rows.{outside, longRead, ok}
-use Rattle.commands.specs.PlacesLaws.{entries-view}
 use Rattle.rows.specs.Laws.{read-inside, entries-inside, credit-inside, debit-inside, rebook-inside}
 use Rattle.standing.specs.Parts.{logBroken}
 use Rattle.effects.specs.Effects.{purseAfter, journalAfter, storedAfter, filesAfter}
@@ -45,38 +47,38 @@ use Rattle.replies.specs.Replies.{shownOf}
 use Rattle.replies.specs.Guarded.{valueIn, shownIn}
 use Rattle.card.specs.Events.{channelAfter, changed, shown, macBehind, acceptedStatus, acceptedPlain}
 
--- what an accepted command's data field d is known to be, where m says that a MAC came off it
-abbrev pub Granted : Core → Bool → ℕ → List ℕ → Type 0
-Granted c m i d = (outside (c .settings .limits) (c .purse) (length (c .journal .entries)) i d ≡ false) × (longRead m i d ≡ false)
+-- what an accepted command's data field d is known to be, where m says that a MAC came off it, and r is the role of the file that it names
+abbrev pub Granted : Core → Bool → ℕ → Role → List ℕ → Type 0
+Granted c m i r d = (outside (c .settings .limits) (c .purse) (length (c .journal .entries)) i r d ≡ false) × (longRead m i r d ≡ false)
 
 -- the data of a base command's reply
-abbrev pub baseShown : State → ℕ → List ℕ → List ℕ
-baseShown s i d = shownOf (s .core .settings) (s .files) (s .core .purse) (s .core .journal) i d
+abbrev pub baseShown : State → ℕ → Role → List ℕ → List ℕ
+baseShown s i r d = shownOf (s .core .settings) (s .files) (s .core .purse) (s .core .journal) i r d
 
 -- ---- the value file
 
-module _ (l : Limits) (p : Purse) (n : ℕ) (d : List ℕ) where
-  credits : outside l p n credit d ≡ false → creditIn l p (amountOf d) ≡ credited p (amountOf d)
+module _ (l : Limits) (p : Purse) (n : ℕ) (r : Role) (d : List ℕ) where
+  credits : outside l p n credit r d ≡ false → creditIn l p (amountOf d) ≡ credited p (amountOf d)
   unfolding creditIn
-  credits e = picked _ _ (credit-inside l p n d e)
+  credits e = picked _ _ (credit-inside l p n r d e)
 
-  debits : outside l p n debit d ≡ false → debitIn l p (amountOf d) ≡ debited p (amountOf d)
+  debits : outside l p n debit r d ≡ false → debitIn l p (amountOf d) ≡ debited p (amountOf d)
   unfolding debitIn
-  debits e = picked _ _ (debit-inside l p n d e)
+  debits e = picked _ _ (debit-inside l p n r d e)
 
-  rebooks : outside l p n limitedCredit d ≡ false → rebookIn l p (amountOf d) ≡ rebooked p (amountOf d)
+  rebooks : outside l p n limitedCredit r d ≡ false → rebookIn l p (amountOf d) ≡ rebooked p (amountOf d)
   unfolding rebookIn pick
   rebooks e =
-      let h = rebook-inside l p n d e in
+      let h = rebook-inside l p n r d e in
       let w = not-false (within l (p .pending +ℤ pos (amountOf d))) (h .0) in
-      let r = le-leb (amountOf d) (p .left) (ltb-false (p .left) (amountOf d) (h .1)) in
-      rw (w, r)
+      let q = le-leb (amountOf d) (p .left) (ltb-false (p .left) (amountOf d) (h .1)) in
+      rw (w, q)
 
   -- a fact of the row at the command i, where i is k
-  at : (i k : ℕ) → outside l p n i d ≡ false → eqb i k ≡ true → outside l p n k d ≡ false
-  at i k e t = subst (λ (j : ℕ). outside l p n j d ≡ false) (eqb-true i k t) e
+  at : (i k : ℕ) → outside l p n i r d ≡ false → eqb i k ≡ true → outside l p n k r d ≡ false
+  at i k e t = subst (λ (j : ℕ). outside l p n j r d ≡ false) (eqb-true i k t) e
 
-  pub purse-inside : (i : ℕ) → outside l p n i d ≡ false → purseIn l i d p ≡ purseAfter i d p
+  pub purse-inside : (i : ℕ) → outside l p n i r d ≡ false → purseIn l i d p ≡ purseAfter i d p
   unfolding purseIn purseAfter
   purse-inside i e =
       pick-alike _ (λ t. credits (at i credit e t))
@@ -86,12 +88,7 @@ module _ (l : Limits) (p : Purse) (n : ℕ) (d : List ℕ) where
 
 -- ---- what is shown
 
-module _ (room : ℕ) (s : State) (l : Log) (d : List ℕ) (j : s .core .journal ≡ log.view l) (k : 256 ≤ room) (b : logBroken l ≡ false) where
-  data-shown : outsideOf (files.sizeOf (fileOf d)) (offsetOf d) (lengthOf d) ≡ false
-      → files.shownIn room (s .files) (fileOf d) (offsetOf d) (lengthOf d) ≡ files.shown (s .files) (fileOf d) (offsetOf d) (lengthOf d)
-  unfolding files.shownIn
-  data-shown e = passed _ _ (or-none _ _ (le-ltb room 256 (omega arith)) e)
-
+module _ (room : ℕ) (s : State) (l : Log) (r : Role) (d : List ℕ) (j : s .core .journal ≡ log.view l) (k : 256 ≤ room) (b : logBroken l ≡ false) where
   value-shown : (v : ℤ) → valueIn room v ≡ four (ofZ w32 v)
   unfolding valueIn
   value-shown v = passed _ _ (le-ltb room 4 (omega arith))
@@ -101,50 +98,50 @@ module _ (room : ℕ) (s : State) (l : Log) (d : List ℕ) (j : s .core .journal
   unfolding records.shownIn logBroken
   entries-shown e =
       let o : outsideOf (l .count) (offsetOf d) (lengthOf d) ≡ false = rw (j, entries-view l) at e in
-      let r = le-ltb room 64 (omega arith) in
+      let q = le-ltb room 64 (omega arith) in
       let f = or-no (ltb 4 (l .count)) _ (or-no _ _ b .0) .0 in
-      rw j (passed _ _ (rw (r, f, o)))
+      rw j (passed _ _ (rw (q, f, o)))
 
-  settings-shown : describedIn room (s .core .settings) (s .core .purse .allowance) (l .count) (fileOf d)
-      ≡ described (s .core .settings) (s .core .purse .allowance) (length (s .core .journal .entries)) (fileOf d)
+  settings-shown : describedIn room (s .core .settings) (s .core .purse .allowance) (l .count) r
+      ≡ described (s .core .settings) (s .core .purse .allowance) (length (s .core .journal .entries)) r
   unfolding describedIn
   settings-shown = rw (j, entries-view l) (passed _ _ (le-ltb room 17 (omega arith)))
 
-  pub shown-accepted : (i : ℕ) → outside (s .core .settings .limits) (s .core .purse) (length (s .core .journal .entries)) i d ≡ false
-      → shownIn room (s .core .settings) (s .files) (s .core .purse) l i d ≡ baseShown s i d
+  pub shown-accepted : (i : ℕ) → outside (s .core .settings .limits) (s .core .purse) (length (s .core .journal .entries)) i r d ≡ false
+      → shownIn room (s .core .settings) (s .files) (s .core .purse) l i r d ≡ baseShown s i r d
   unfolding shownIn shownOf
   shown-accepted i o =
       let c = s .core in
-      pick-alike _ (λ t. data-shown (read-inside (c .settings .limits) (c .purse) _ d (at (c .settings .limits) (c .purse) _ d i readData o t)))
+      pick-alike _ (λ t. sym (datafiles.shown-inside room (s .files) r (offsetOf d) (lengthOf d) k (read-inside (c .settings .limits) (c .purse) _ r d (at (c .settings .limits) (c .purse) _ r d i readData o t))))
       (λ _. pick-alike _ (λ t. value-shown (c .purse .value))
-      (λ _. pick-alike _ (λ t. entries-shown (entries-inside (c .settings .limits) (c .purse) _ d (at (c .settings .limits) (c .purse) _ d i readRecords o t)))
+      (λ _. pick-alike _ (λ t. entries-shown (entries-inside (c .settings .limits) (c .purse) _ r d (at (c .settings .limits) (c .purse) _ r d i readRecords o t)))
       (λ _. pick-alike _ (λ t. settings-shown)
       (λ _. refl))))
 
 -- ---- how much is shown
 
 -- a read in MAC mode leaves room for its MAC
-read-room : (m : Bool) (f : Files) (d : List ℕ) → outsideOf (files.sizeOf (fileOf d)) (offsetOf d) (lengthOf d) ≡ false → longRead m readData d ≡ false
-    → length (files.shown f (fileOf d) (offsetOf d) (lengthOf d)) + pick m 8 0 ≤ 256
+read-room : (m : Bool) (f : Files) (r : Role) (d : List ℕ) → outsideOf (sizeOf r) (offsetOf d) (lengthOf d) ≡ false → longRead m readData r d ≡ false
+    → length (files.shown f r (offsetOf d) (lengthOf d)) + pick m 8 0 ≤ 256
 unfolding longRead pick files.shown
-read-room false f d o h = omega (arith, datafiles.shown-small f (fileOf d) (offsetOf d) (lengthOf d) o)
-read-room true f d o h =
-    let n = files.endOf (files.sizeOf (fileOf d)) (offsetOf d) (lengthOf d) in
+read-room false f r d o h = omega (arith, datafiles.shown-small f r (offsetOf d) (lengthOf d) o)
+read-room true f r d o h =
+    let n = files.endOf (sizeOf r) (offsetOf d) (lengthOf d) in
     let k = ltb-false 248 (n - offsetOf d) h in
-    omega (arith, length-take (n - offsetOf d) (drop (offsetOf d) (files.bytesOf f (fileOf d))))
+    omega (arith, length-take (n - offsetOf d) (drop (offsetOf d) (files.bytesOf f r)))
 
 -- a reply's data and its MAC are at most 256 bytes
-pub shown-small : (m : Bool) (s : State) (i : ℕ) (d : List ℕ) → Fit (s .core .journal) → Granted (s .core) m i d → length (baseShown s i d) + pick m 8 0 ≤ 256
+pub shown-small : (m : Bool) (s : State) (i : ℕ) (r : Role) (d : List ℕ) → Fit (s .core .journal) → Granted (s .core) m i r d → length (baseShown s i r d) + pick m 8 0 ≤ 256
 unfolding shownOf
-shown-small m s i d fit (o, h) =
+shown-small m s i r d fit (o, h) =
     let c = s .core in
     let l = c .settings .limits in
     let small : pick m 8 0 ≤ 8 = pick-both (λ n. n ≤ 8) m 8 0 (omega arith) (omega arith) in
     let Small : List ℕ → Type 0 = λ x. length x + pick m 8 0 ≤ 256 in
-    pick-cases Small _ _ _ (λ t. read-room m (s .files) d (read-inside l (c .purse) _ d (at l (c .purse) _ d i readData o t)) (subst (λ (j : ℕ). longRead m j d ≡ false) (eqb-true i readData t) h))
+    pick-cases Small _ _ _ (λ t. read-room m (s .files) r d (read-inside l (c .purse) _ r d (at l (c .purse) _ r d i readData o t)) (subst (λ (j : ℕ). longRead m j r d ≡ false) (eqb-true i readData t) h))
     (λ _. pick-cases Small _ _ _ (λ t. omega arith)
     (λ _. pick-cases Small _ _ _ (λ t. omega (arith, shown-room (c .journal) (offsetOf d) (lengthOf d) fit))
-    (λ _. pick-cases Small _ _ _ (λ t. omega (arith, described-small (c .settings) (c .purse .allowance) (length (c .journal .entries)) (fileOf d)))
+    (λ _. pick-cases Small _ _ _ (λ t. omega (arith, described-small (c .settings) (c .purse .allowance) (length (c .journal .entries)) r))
     (λ _. omega arith))))
 
 -- ---- a base command: its channel, its reply, its status
@@ -154,20 +151,20 @@ module _ (i : ℕ) (n₁ : eqb i authenticateFirst ≡ false) (n₂ : eqb i auth
   unfolding channelAfter
   base-channel ks u d c = passed _ _ n₁ ∙ passed _ _ n₂
 
-  pub base-accepted : (m : Bool) (s : State) (u : Inputs) (d : List ℕ) {n : ℕ} → n ≡ storedAfter i (s .core .journal)
-      → record { state = changed s u i d; stored = n; out = baseShown s i d ++ (macBehind m (counted (s .core .channel)) (baseShown s i d) ++ word ok) } ≡ acceptedPlain m s u i d
+  pub base-accepted : (m : Bool) (s : State) (u : Inputs) (r : Role) (d : List ℕ) {n : ℕ} → n ≡ storedAfter i (s .core .journal)
+      → record { state = changed s u i r d; stored = n; out = baseShown s i r d ++ (macBehind m (counted (s .core .channel)) (baseShown s i r d) ++ word ok) } ≡ acceptedPlain m s u i r d
   unfolding acceptedPlain shown acceptedStatus
-  base-accepted m s u d e =
-      let x : shown s u i d ≡ baseShown s i d = passed _ _ n₁ ∙ passed _ _ n₂ in
+  base-accepted m s u r d e =
+      let x : shown s u i r d ≡ baseShown s i r d = passed _ _ n₁ ∙ passed _ _ n₂ in
       let t : acceptedStatus i ≡ ok = passed _ _ n₁ in
-      let k : changed s u i d .core .channel ≡ counted (s .core .channel) = unfold changed in base-channel (s .core .keys) u d (s .core .channel) in
+      let k : changed s u i r d .core .channel ≡ counted (s .core .channel) = unfold changed in base-channel (s .core .keys) u d (s .core .channel) in
       rw (x, t, k, e) refl
 
 -- ---- what a command that shows changes but for the counter, and what another shows: nothing
 
-module _ (s : State) (d : List ℕ) where
+module _ (s : State) (r : Role) (d : List ℕ) where
   abbrev Still : ℕ → Type 0
-  Still i = (purseAfter i d (s .core .purse) ≡ s .core .purse) × (journalAfter i d (s .core .journal) ≡ s .core .journal) × (filesAfter i d (s .files) ≡ s .files)
+  Still i = (purseAfter i d (s .core .purse) ≡ s .core .purse) × (journalAfter i d (s .core .journal) ≡ s .core .journal) × (filesAfter i r d (s .files) ≡ s .files)
       × (eqb i authenticateFirst ≡ false) × (eqb i authenticateSecond ≡ false) × (0 ≡ storedAfter i (s .core .journal))
 
   by-one : (i k : ℕ) → Still k → eqb i k ≡ true → Still i
@@ -179,12 +176,12 @@ module _ (s : State) (d : List ℕ) where
       by (eqb i readData) (eqb i getValue) (eqb i readRecords) (eqb i getFileSettings) (by-one i readData (refl, refl, refl, refl, refl, refl)) (by-one i getValue (refl, refl, refl, refl, refl, refl)) (by-one i readRecords (refl, refl, refl, refl, refl, refl)) (by-one i getFileSettings (refl, refl, refl, refl, refl, refl)) e
     where
       by : (a b c d : Bool) {P : Type 0} → (a ≡ true → P) → (b ≡ true → P) → (c ≡ true → P) → (d ≡ true → P) → (a || b || c || d) ≡ true → P
-      by true b c d p q r s e = p refl
-      by false true c d p q r s e = q refl
-      by false false true d p q r s e = r refl
-      by false false false d p q r s e = s e
+      by true b c d p q x y e = p refl
+      by false true c d p q x y e = q refl
+      by false false true d p q x y e = x refl
+      by false false false d p q x y e = y e
 
-  pub quiet-shows-nothing : (i : ℕ) → shows i ≡ false → baseShown s i d ≡ []
+  pub quiet-shows-nothing : (i : ℕ) → shows i ≡ false → baseShown s i r d ≡ []
   unfolding shownOf
   quiet-shows-nothing i e =
       let n = none (eqb i readData ∷ eqb i getValue ∷ eqb i readRecords ∷ eqb i getFileSettings ∷ []) e in

@@ -7,6 +7,7 @@ use lib.IntN.{ℤ, pos}
 use lib.ListN.{length}
 use Rattle.tables.specs.Choice.{pick}
 use Rattle.wire.specs.Bytes.{word}
+use Rattle.roles.specs.declared.Role.{Role}
 use Rattle.datafiles.specs.Files as files
 use Rattle.purse.specs.Purse as purse
 use Rattle.logbook.specs.Journal as journal
@@ -26,7 +27,7 @@ use Rattle.frames.specs.Frame.{insOf, dataOf}
 use Rattle.settings.specs.declared.Settings.{Settings}
 use Rattle.settings.specs.Settings.{alike}
 use Rattle.rows.specs.State.{State}
-use Rattle.modes.specs.Modes.{plainOf}
+use Rattle.modes.specs.Modes.{roleIn, plainOf}
 use Rattle.rows.specs.Rows.{ok, macedIn, statusOf, openingStatus, bytesStatus}
 use Rattle.standing.specs.Rules.{orderRefusal}
 use Rattle.effects.specs.Effects.{purseAfter, journalAfter, storedAfter, filesAfter}
@@ -35,15 +36,15 @@ use Rattle.card.specs.declared.Card.{Card}
 use Rattle.card.specs.View.{view, put, broken}
 use Rattle.card.specs.Outcome.{Outcome, bench}
 
--- ---- a command: i is its INS, d its data field without a MAC, u what the bench hands in
+-- ---- a command: i is its INS, r the role of the file that it names, d its data field without a MAC, u what the bench hands in
 
 -- the channel after it: a part of an authentication, or a base command
 unfoldable pub channelAfter : Keys → Inputs → ℕ → List ℕ → Channel → Channel
 channelAfter ks u i d c = pick (eqb i authenticateFirst) (begun u d) (pick (eqb i authenticateSecond) (opened ks c d) (counted c))
 
 -- an accepted command
-unfoldable pub changed : State → Inputs → ℕ → List ℕ → State
-changed s u i d =
+unfoldable pub changed : State → Inputs → ℕ → Role → List ℕ → State
+changed s u i r d =
     record {
       core = record {
         settings = s .core .settings;
@@ -52,15 +53,15 @@ changed s u i d =
         journal = journalAfter i d (s .core .journal);
         channel = channelAfter (s .core .keys) u i d (s .core .channel);
       };
-      files = filesAfter i d (s .files);
+      files = filesAfter i r d (s .files);
     }
 
 -- the data of its reply
-unfoldable pub shown : State → Inputs → ℕ → List ℕ → List ℕ
-shown s u i d =
+unfoldable pub shown : State → Inputs → ℕ → Role → List ℕ → List ℕ
+shown s u i r d =
     pick (eqb i authenticateFirst) (firstShown (s .core .keys) u d)
     (pick (eqb i authenticateSecond) (secondShown (s .core .keys) (s .core .channel) d)
-    (shownOf (s .core .settings) (s .files) (s .core .purse) (s .core .journal) i d))
+    (shownOf (s .core .settings) (s .files) (s .core .purse) (s .core .journal) i r d))
 
 -- the MAC behind these data where m says that the command had one; c is the channel after it, its counter gone up
 unfoldable pub macBehind : Bool → Channel → List ℕ → List ℕ
@@ -95,17 +96,17 @@ unfoldable pub refused : State → ℕ → Played
 refused s status = record { state = ended s; stored = 0; out = word status }
 
 -- an accepted reply is its data, its MAC if the command had one, and its status
-unfoldable pub acceptedPlain : Bool → State → Inputs → ℕ → List ℕ → Played
-acceptedPlain m s u i d =
+unfoldable pub acceptedPlain : Bool → State → Inputs → ℕ → Role → List ℕ → Played
+acceptedPlain m s u i r d =
     record {
-      state = changed s u i d;
+      state = changed s u i r d;
       stored = storedAfter i (s .core .journal);
-      out = shown s u i d ++ (macBehind m (changed s u i d .core .channel) (shown s u i d) ++ word (acceptedStatus i));
+      out = shown s u i r d ++ (macBehind m (changed s u i r d .core .channel) (shown s u i r d) ++ word (acceptedStatus i));
     }
 
 -- x is the data field as sent
 unfoldable pub accepted : State → Inputs → ℕ → List ℕ → Played
-accepted s u i x = acceptedPlain (macedIn (s .core) i x) s u i (plainOf (macedIn (s .core) i x) x)
+accepted s u i x = acceptedPlain (macedIn (s .core) i x) s u i (roleIn (s .core .settings) x) (plainOf (macedIn (s .core) i x) x)
 
 -- p where the status is ok, else a refusal with that status
 abbrev pub judged : ℕ → State → Played → Played
@@ -157,7 +158,7 @@ withChannel s c =
 
 -- an accepted opening with the data field d replies nothing, and changes nothing but that a chain is open
 unfoldable pub opening : State → List ℕ → Played
-opening s d = record { state = withChannel s (chained (s .core .channel) (announced d)); stored = 0; out = [] }
+opening s d = record { state = withChannel s (chained (s .core .channel) (announced (roleIn (s .core .settings) d) d)); stored = 0; out = [] }
 
 -- the frame f as an opening
 unfoldable pub openingPlayed : State → List ℕ → Played

@@ -1,5 +1,5 @@
 -- Laws of the card's parts and events, as the code goes through them.
-use Prim.Native.Nat.{ℕ, _+_, _≤_, _<_}
+use Prim.Native.Nat.{ℕ, _+_, _≤_}
 use mathlib.Core.Bool.{Bool, true, false, not}
 use mathlib.Core.List.{List, [], _++_}
 use mathlib.Core.Path.{_≡_, refl, sym, ap, _∙_}
@@ -16,6 +16,7 @@ use Rattle.logbook.specs.View as log
 use Rattle.logbook.specs.Laws as logbook
 use Rattle.logbook.specs.FitLaws.{fit-view}
 use Rattle.purse.specs.declared.Purse.{Purse}
+use Rattle.roles.specs.declared.Role.{Role}
 use Rattle.datafiles.specs.declared.Files.{Files}
 use Rattle.datafiles.specs.Files as files
 use Rattle.access.specs.declared.Session.{Session}
@@ -32,7 +33,7 @@ use Rattle.columns.specs.Table.{writeData, authenticateFirst, authenticateSecon
 use Rattle.frames.specs.Frame.{insOf, dataOf}
 use Rattle.settings.specs.declared.Settings.{Settings}
 use Rattle.rows.specs.State.{State}
-use Rattle.modes.specs.Modes.{plainOf}
+use Rattle.modes.specs.Modes.{roleIn, plainOf}
 use Rattle.rows.specs.Rows.{wrongLength, outside, ok, macedIn, statusOf, commandStatus, openingStatus, bytesStatus}
 use Rattle.rows.specs.Laws.{command-ok, inside, long-enough, first-plain, second-plain, second-length}
 use Rattle.effects.specs.Effects.{purseAfter, journalAfter, storedAfter, filesAfter}
@@ -55,7 +56,7 @@ put-view c = ap (λ (l : Log). record { settings = c .settings; keys = c .keys; 
 
 -- a card that breaks no rule has a log that breaks none
 pub log-unbroken : (c : Card) → broken c ≡ false → logBroken (c .log) ≡ false
-log-unbroken c e = parted (c .settings) (c .purse) (c .log) (c .channel .stage) (c .channel .chain) e .1 .1 .1 .0
+log-unbroken c e = parted (c .settings) (c .purse) (c .log) (c .channel .stage) (c .channel .chain) e .1 .1 .1 .1 .1 .0
 
 -- ---- replies
 
@@ -84,15 +85,15 @@ unfolding laidInto replyOf
 shows-answers c {t = t} s x b ek (e, l) = ((λ i. replyStoring t (ek i) 0 (l i)), e)
 
 -- what an accepted command lays at the front is its data, with room for the MAC and the status
-pub accepted-shows : (c : Card) (m : Bool) (i : ℕ) (d b b₁ : List ℕ) (n : ℕ) → Granted (view c .core) m i d → broken c ≡ false → replyRoom ≤ length b
-    → length (c .log .slots) ≡ 64 → length (c .log .entry) ≡ 16 → Shows (shownIn (length b) (c .settings) (c .files) (c .purse) (c .log) i d) b b₁ n
-    → Shows (baseShown (view c) i d) b b₁ n × (n + pick m 8 0 ≤ 256)
+pub accepted-shows : (c : Card) (m : Bool) (i : ℕ) (r : Role) (d b b₁ : List ℕ) (n : ℕ) → Granted (view c .core) m i r d → broken c ≡ false → replyRoom ≤ length b
+    → length (c .log .slots) ≡ 64 → length (c .log .entry) ≡ 16 → Shows (shownIn (length b) (c .settings) (c .files) (c .purse) (c .log) i r d) b b₁ n
+    → Shows (baseShown (view c) i r d) b b₁ n × (n + pick m 8 0 ≤ 256)
 unfolding view
-accepted-shows c m i d b b₁ n g r room ls le s =
-    let u = log-unbroken c r in
-    let q = shown-accepted (length b) (view c) (c .log) d refl (omega arith) u i (g .0) in
-    let z = shown-small m (view c) i d (fit-view (c .log) (log-few (c .log) u) ls le) g in
-    let t : n ≡ length (baseShown (view c) i d) = s .1 ∙ ap length q in
+accepted-shows c m i r d b b₁ n g sound room ls le s =
+    let u = log-unbroken c sound in
+    let q = shown-accepted (length b) (view c) (c .log) r d refl (omega arith) u i (g .0) in
+    let z = shown-small m (view c) i r d (fit-view (c .log) (log-few (c .log) u) ls le) g in
+    let t : n ≡ length (baseShown (view c) i r d) = s .1 ∙ ap length q in
     ((cc, t), rw (sym t) at z)
 
 -- ---- the card that an accepted command leaves
@@ -103,60 +104,61 @@ pub on-channel : (c : Card) (s : State) (k : Channel) → s ≡ record { core = 
 unfolding onChannel put
 on-channel c s k e = rw (e, logbook.put-view (c .log)) refl
 
-pub on-counted : (c : Card) (u : Inputs) (i : ℕ) (d : List ℕ) → shows i ≡ true → onChannel c (counted (c .channel)) ≡ put c 0 (changed (view c) u i d)
-on-counted c u i d t =
-    let h = shows-changes-nothing (view c) d i t in
+pub on-counted : (c : Card) (u : Inputs) (i : ℕ) (r : Role) (d : List ℕ) → shows i ≡ true → onChannel c (counted (c .channel)) ≡ put c 0 (changed (view c) u i r d)
+on-counted c u i r d t =
+    let h = shows-changes-nothing (view c) r d i t in
     on-channel c _ _ (unfold changed view in rw (h .0, h .1, h .2, base-channel i (h .3) (h .4) (c .keys) u d (c .channel)) refl)
 
-pub on-begun : (c : Card) (u : Inputs) (d : List ℕ) → onChannel c (begun u d) ≡ put c 0 (changed (view c) u authenticateFirst d)
-on-begun c u d = on-channel c _ _ (unfold changed view purseAfter journalAfter filesAfter channelAfter pick in refl)
+pub on-begun : (c : Card) (u : Inputs) (r : Role) (d : List ℕ) → onChannel c (begun u d) ≡ put c 0 (changed (view c) u authenticateFirst r d)
+on-begun c u r d = on-channel c _ _ (unfold changed view purseAfter journalAfter filesAfter channelAfter pick in refl)
 
-pub on-opened : (c : Card) (u : Inputs) (d : List ℕ) → length d ≡ 32 → onChannel c (openedIn (c .keys) (c .channel) d) ≡ put c 0 (changed (view c) u authenticateSecond d)
-on-opened c u d e = on-channel c _ _ (unfold changed view purseAfter journalAfter filesAfter channelAfter pick in rw (opens-whole (c .keys) (c .channel) d e) refl)
+pub on-opened : (c : Card) (u : Inputs) (r : Role) (d : List ℕ) → length d ≡ 32 → onChannel c (openedIn (c .keys) (c .channel) d) ≡ put c 0 (changed (view c) u authenticateSecond r d)
+on-opened c u r d e = on-channel c _ _ (unfold changed view purseAfter journalAfter filesAfter channelAfter pick in rw (opens-whole (c .keys) (c .channel) d e) refl)
 
 -- a command on the value file or the log
-pub moved : (c : Card) (u : Inputs) (i : ℕ) (d : List ℕ) (p : Purse) (l : Log) {k : Channel} {n : ℕ} → outside (view c .core .settings .limits) (view c .core .purse) (length (view c .core .journal .entries)) i d ≡ false
+pub moved : (c : Card) (u : Inputs) (i : ℕ) (r : Role) (d : List ℕ) (p : Purse) (l : Log) {k : Channel} {n : ℕ}
+    → outside (view c .core .settings .limits) (view c .core .purse) (length (view c .core .journal .entries)) i r d ≡ false
     → eqb i authenticateFirst ≡ false → eqb i authenticateSecond ≡ false → eqb i writeData ≡ false
     → p ≡ purseIn (c .settings .limits) i d (c .purse) → l ≡ log.put (c .log) (storedAfter i (log.view (c .log))) (journalAfter i d (log.view (c .log))) → n ≡ storedAfter i (log.view (c .log))
-    → k ≡ counted (c .channel) → record { settings = c .settings; keys = c .keys; files = c .files; purse = p; log = l; channel = k } ≡ put c n (changed (view c) u i d)
+    → k ≡ counted (c .channel) → record { settings = c .settings; keys = c .keys; files = c .files; purse = p; log = l; channel = k } ≡ put c n (changed (view c) u i r d)
 unfolding put view changed
-moved c u i d p l o n₁ n₂ w ep el en ek =
-    let q = ep ∙ purse-inside (c .settings .limits) (c .purse) _ d i o in
-    let f : filesAfter i d (c .files) ≡ c .files = unfold filesAfter in passed _ _ w in
+moved c u i r d p l o n₁ n₂ w ep el en ek =
+    let q = ep ∙ purse-inside (c .settings .limits) (c .purse) _ r d i o in
+    let f : filesAfter i r d (c .files) ≡ c .files = unfold filesAfter in passed _ _ w in
     rw (q, el, f, en, ek, base-channel i n₁ n₂ (c .keys) u d (c .channel)) refl
 
 -- WriteData
-pub wrote : (c : Card) (u : Inputs) (i : ℕ) (d : List ℕ) (f : Files) {k : Channel} → i ≡ writeData → f ≡ filesAfter writeData d (c .files)
-    → k ≡ counted (c .channel) → record { settings = c .settings; keys = c .keys; files = f; purse = c .purse; log = c .log; channel = k } ≡ put c 0 (changed (view c) u i d)
+pub wrote : (c : Card) (u : Inputs) (i : ℕ) (r : Role) (d : List ℕ) (f : Files) {k : Channel} → i ≡ writeData → f ≡ filesAfter writeData r d (c .files)
+    → k ≡ counted (c .channel) → record { settings = c .settings; keys = c .keys; files = f; purse = c .purse; log = c .log; channel = k } ≡ put c 0 (changed (view c) u i r d)
 unfolding put view changed purseAfter journalAfter channelAfter pick
-wrote c u i d f ei e ek = rw (ei, e, ek, logbook.put-view (c .log)) refl
+wrote c u i r d f ei e ek = rw (ei, e, ek, logbook.put-view (c .log)) refl
 
 pub write-stores-none : (c : Card) {i : ℕ} → i ≡ writeData → 0 ≡ storedAfter i (view c .core .journal)
 unfolding storedAfter pick
 write-stores-none c e = rw e refl
 
 -- a part of an authentication: the n bytes x of its reply, and its status w behind them
-pub part-answers : (c : Card) {k : Card} (u : Inputs) (i : ℕ) (d x b : List ℕ) {b₁ b₂ : List ℕ} {r : ℕ} (n w : ℕ) → k ≡ put c 0 (changed (view c) u i d) → 0 ≡ storedAfter i (view c .core .journal)
-    → x ≡ shown (view c) u i d → w ≡ acceptedStatus i → length x ≡ n → n + 2 ≤ length b → b₁ ≡ laidIn b 0 x → b₂ ≡ laidIn b₁ n (word w) → r ≡ n + 2
-    → Answered (laidInto c (acceptedPlain false (view c) u i d)) b b₂ (reply k 0 r)
-part-answers c u i d x b {b₁} {r = r} n w ek et ex ew lx room e₁ e₂ er =
+pub part-answers : (c : Card) {k : Card} (u : Inputs) (i : ℕ) (r : Role) (d x b : List ℕ) {b₁ b₂ : List ℕ} {z : ℕ} (n w : ℕ) → k ≡ put c 0 (changed (view c) u i r d) → 0 ≡ storedAfter i (view c .core .journal)
+    → x ≡ shown (view c) u i r d → w ≡ acceptedStatus i → length x ≡ n → n + 2 ≤ length b → b₁ ≡ laidIn b 0 x → b₂ ≡ laidIn b₁ n (word w) → z ≡ n + 2
+    → Answered (laidInto c (acceptedPlain false (view c) u i r d)) b b₂ (reply k 0 z)
+part-answers c u i r d x b {b₁} {z = z} n w ek et ex ew lx room e₁ e₂ er =
     let s = shows-whole x b b₁ n lx (omega arith) e₁ in
     let lw = length-word w in
     let lb = shows-length x b b₁ n s (omega arith) in
     let v = shows-then x (word w) b s (e₂ ∙ laid-room b₁ n (word w) (omega arith)) in
-    let y : record { state = changed (view c) u i d; stored = 0; out = x ++ word w } ≡ acceptedPlain false (view c) u i d = unfold acceptedPlain macBehind pick in rw (ex, ew, ← et) refl in
-    let l : r ≡ length (x ++ word w) = er ∙ ap (λ (j : ℕ). n + j) (sym (length-word w)) ∙ v .1 in
-    answered-as _ _ _ _ _ (ap (laidInto c) y) (shows-answers c (changed (view c) u i d) (x ++ word w) b ek (v .0, l))
+    let y : record { state = changed (view c) u i r d; stored = 0; out = x ++ word w } ≡ acceptedPlain false (view c) u i r d = unfold acceptedPlain macBehind pick in rw (ex, ew, ← et) refl in
+    let l : z ≡ length (x ++ word w) = er ∙ ap (λ (j : ℕ). n + j) (sym (length-word w)) ∙ v .1 in
+    answered-as _ _ _ _ _ (ap (laidInto c) y) (shows-answers c (changed (view c) u i r d) (x ++ word w) b ek (v .0, l))
 
 -- a base command that shows something
-pub shown-answers : (c : Card) {k : Card} (m : Bool) (u : Inputs) (i : ℕ) (d b : List ℕ) {b₁ b₂ : List ℕ} {n r : ℕ} → shows i ≡ true
-    → k ≡ onChannel c (counted (c .channel)) → Shows (baseShown (view c) i d) b b₁ n → Sealed (counted (c .channel)) m n b₁ b₂ r
-    → Answered (laidInto c (acceptedPlain m (view c) u i d)) b b₂ (reply k 0 r)
+pub shown-answers : (c : Card) {k : Card} (m : Bool) (u : Inputs) (i : ℕ) (r : Role) (d b : List ℕ) {b₁ b₂ : List ℕ} {n l : ℕ} → shows i ≡ true
+    → k ≡ onChannel c (counted (c .channel)) → Shows (baseShown (view c) i r d) b b₁ n → Sealed (counted (c .channel)) m n b₁ b₂ l
+    → Answered (laidInto c (acceptedPlain m (view c) u i r d)) b b₂ (reply k 0 l)
 unfolding view
-shown-answers c m u i d b t ek s z =
-    let h = shows-changes-nothing (view c) d i t in
-    let v = sealed-shows (counted (c .channel)) m (baseShown (view c) i d) b s z in
-    answered-as _ _ _ _ _ (ap (laidInto c) (base-accepted i (h .3) (h .4) m (view c) u d (h .5))) (shows-answers c (changed (view c) u i d) _ b (ek ∙ on-counted c u i d t) v)
+shown-answers c m u i r d b t ek s z =
+    let h = shows-changes-nothing (view c) r d i t in
+    let v = sealed-shows (counted (c .channel)) m (baseShown (view c) i r d) b s z in
+    answered-as _ _ _ _ _ (ap (laidInto c) (base-accepted i (h .3) (h .4) m (view c) u r d (h .5))) (shows-answers c (changed (view c) u i r d) _ b (ek ∙ on-counted c u i r d t) v)
 
 -- ---- an event with a reply buffer, which plays p where there is no bench refusal
 
@@ -220,18 +222,19 @@ module _ (c : Card) (f : List ℕ) (u : Inputs) where
         → b₂ ≡ laidIn b 0 (word s) → n ≡ 0 + 2 → Answered (commanded c f u (length b)) b b₂ (reply k 0 n)
     command-refused s es n ek e q = answered-as _ _ _ _ _ (plays-refused s es n ∙ command-plays _ h w) (refused-answers c s b h ek e q)
 
-    -- m, i and d are whether it has a MAC, its command and its data field without it, as the code has read them
-    module _ (s : statusOf (view c .core) f ≡ ok) {m : Bool} {i : ℕ} {x d : List ℕ} (em : m ≡ macedIn (view c .core) (insOf f) (dataOf f)) (ei : i ≡ insOf f) (ex : x ≡ dataOf f) (ed : d ≡ plainOf m x) where
+    -- m, r, i and d are whether it has a MAC, the role of the file, its command and its data field without the MAC, as the code has them
+    module _ (s : statusOf (view c .core) f ≡ ok) {m : Bool} {r : Role} {i : ℕ} {x d : List ℕ} (em : m ≡ macedIn (view c .core) (insOf f) (dataOf f))
+        (er : r ≡ roleIn (view c .core .settings) (dataOf f)) (ei : i ≡ insOf f) (ex : x ≡ dataOf f) (ed : d ≡ plainOf m x) where
       taken : commandStatus false (view c .core) (insOf f) (dataOf f) ≡ ok
       taken = command-ok false (view c .core) f s
 
-      pub command-granted : Granted (view c .core) m i d
-      command-granted = rw (ed, ex, ei, em) (inside false (view c .core) (insOf f) (dataOf f) taken)
+      pub command-granted : Granted (view c .core) m i r d
+      command-granted = rw (ed, ex, ei, er, em) (inside false (view c .core) (insOf f) (dataOf f) taken)
 
-      pub command-accepts : {b₂ : List ℕ} {r : Reply} → Answered (laidInto c (acceptedPlain m (view c) u i d)) b b₂ r → Answered (commanded c f u (length b)) b b₂ r
+      pub command-accepts : {b₂ : List ℕ} {y : Reply} → Answered (laidInto c (acceptedPlain m (view c) u i r d)) b b₂ y → Answered (commanded c f u (length b)) b b₂ y
       unfolding accepted
       command-accepts y =
-          let q : acceptedPlain m (view c) u i d ≡ accepted (view c) u (insOf f) (dataOf f) = rw (ed, ex, ei, em) refl in
+          let q : acceptedPlain m (view c) u i r d ≡ accepted (view c) u (insOf f) (dataOf f) = rw (ed, ex, ei, er, em) refl in
           answered-as _ _ _ _ _ (ap (laidInto c) q ∙ plays-accepted s ∙ command-plays _ h w) y
 
       -- a part of an authentication has no MAC, and a second one its 32 bytes
@@ -246,18 +249,18 @@ module _ (c : Card) (f : List ℕ) (u : Inputs) where
           let l : wrongLength false i d ≡ false = rw (ed, ex, ei, em) (long-enough false (view c .core) (insOf f) (dataOf f) taken .0) in
           second-length false d (rw q at l)
 
-      pub command-part : {b₂ : List ℕ} {r : Reply} {j : ℕ} → i ≡ j → m ≡ false → Answered (laidInto c (acceptedPlain false (view c) u j d)) b b₂ r → Answered (commanded c f u (length b)) b b₂ r
+      pub command-part : {b₂ : List ℕ} {y : Reply} {j : ℕ} → i ≡ j → m ≡ false → Answered (laidInto c (acceptedPlain false (view c) u j r d)) b b₂ y → Answered (commanded c f u (length b)) b b₂ y
       command-part ej e y = command-accepts (rw (e, ej) y)
 
       -- a base command that shows nothing; g is its channel after, and t the slot bytes that it stored
       pub command-quiet : {b₂ : List ℕ} {k : Card} {n t : ℕ} {g : Channel} → eqb i authenticateFirst ≡ false → eqb i authenticateSecond ≡ false → shows i ≡ false
-          → t ≡ storedAfter i (view c .core .journal) → k ≡ put c t (changed (view c) u i d) → g ≡ counted (c .channel) → Sealed g m 0 b b₂ n
+          → t ≡ storedAfter i (view c .core .journal) → k ≡ put c t (changed (view c) u i r d) → g ≡ counted (c .channel) → Sealed g m 0 b b₂ n
           → Answered (commanded c f u (length b)) b b₂ (replyStoring t k 0 n)
       unfolding view
       command-quiet n₁ n₂ s et ek eg z₀ =
           let z : Sealed (counted (c .channel)) m 0 b _ _ = rw eg at z₀ in
-          let y = quiet-shows-nothing (view c) d i s in
-          let q = base-accepted i n₁ n₂ m (view c) u d et in
+          let y = quiet-shows-nothing (view c) r d i s in
+          let q = base-accepted i n₁ n₂ m (view c) u r d et in
           let v = sealed-shows (counted (c .channel)) m [] b (shows-none b) z in
           command-accepts (answered-as _ _ _ _ _ (ap (laidInto c) q) (shows-answers c _ _ b ek (rw y v)))
 
@@ -271,20 +274,21 @@ pub bytes-bench : (c : Card) (x : List ℕ) (room : ℕ) {n : ℕ} → n ≡ ben
 unfolding bytesSent
 bytes-bench c x room e n = refused-bench c room e _ n
 
--- an opening f; x is its data field, and g the channel after it
+-- an opening f; x is its data field, r the role of the file that it names, and g the channel after it
 module _ (c : Card) (f : List ℕ) (b : List ℕ) (h : replyRoom ≤ length b) (w : broken c ≡ false) where
   pub opening-refused : {b₂ : List ℕ} {r : Reply} (s : ℕ) → s ≡ openingStatus (view c .core) f → (s ≡ ok → ⊥) → Answered (laidInto c (refused (view c) s)) b b₂ r
       → Answered (chainOpened c f (length b)) b b₂ r
   unfolding chainOpened openingPlayed
   opening-refused s e n y = answered-as _ _ _ _ _ (rw e (judged-refused c (openingStatus (view c .core) f) _ (λ q. n (e ∙ q))) ∙ bench-plays c (length b) _ h w) y
 
-  pub opening-taken : {x : List ℕ} {k : Card} {n : Chain} {g : Channel} → openingStatus (view c .core) f ≡ ok → x ≡ dataOf f → n ≡ announced x → g ≡ chained (c .channel) n
+  pub opening-taken : {x : List ℕ} {r : Role} {k : Card} {n : Chain} {g : Channel} → openingStatus (view c .core) f ≡ ok → r ≡ roleIn (view c .core .settings) (dataOf f)
+      → x ≡ dataOf f → n ≡ announced r x → g ≡ chained (c .channel) n
       → k ≡ onChannel c g → Answered (chainOpened c f (length b)) b b (reply k 0 0)
   unfolding chainOpened openingPlayed opening
-  opening-taken s ex en eg ek =
-      let q = on-channel c (opening (view c) (dataOf f) .state) (chained (c .channel) (announced (dataOf f))) (unfold opening view in refl) in
+  opening-taken s er ex en eg ek =
+      let q = on-channel c (opening (view c) (dataOf f) .state) (chained (c .channel) (announced (roleIn (view c .core .settings) (dataOf f)) (dataOf f))) (unfold opening view in refl) in
       answered-as _ _ _ _ _ (judged-accepted c _ (opening (view c) (dataOf f)) s ∙ bench-plays c (length b) _ h w)
-      (shows-answers c (opening (view c) (dataOf f) .state) [] b (ek ∙ rw (eg, en, ex) q) (shows-none b))
+      (shows-answers c (opening (view c) (dataOf f) .state) [] b (ek ∙ rw (eg, en, er, ex) q) (shows-none b))
 
 -- a frame x of file bytes
 module _ (c : Card) (x : List ℕ) (b : List ℕ) (h : replyRoom ≤ length b) (w : broken c ≡ false) where

@@ -7,7 +7,7 @@ use lib.ListN.{length, take, length-append}
 use native.Mathlib.Omega.{arith}
 use Rattle.tables.specs.Choice.{pick}
 use Rattle.wire.specs.Bytes.{laid, laidIn, word, Shows}
-use Rattle.wire.specs.Laws.{laid-room, laid-twice, length-laid, length-word, shows-front, shows-then}
+use Rattle.wire.specs.Laws.{laid-room, laid-further, length-laid, length-word, shows-front, shows-then}
 use Rattle.channel.specs.declared.Channel.{Channel}
 use Rattle.channel.specs.Channel.{counterOf}
 use Rattle.sealing.specs.Sealing.{sealOf}
@@ -36,7 +36,7 @@ module _ (c : Channel) (n : ℕ) (b : List ℕ) (h : 258 ≤ length b) where
       let q : b₁ ≡ laid b n w = e₁ ∙ laid-room b n w (omega arith) in
       let lb : length b₁ ≡ length b = ap length q ∙ length-laid b n w (omega arith) in
       let p : b₂ ≡ laid b₁ (n + 8) (word ok) = e₂ ∙ laid-room b₁ (n + 8) (word ok) (omega arith) in
-      let z : laid (laid b n w) (n + 8) (word ok) ≡ laid b n (w ++ word ok) = rw (sym lw) (laid-twice b n w (word ok) (omega arith)) in
+      let z : laid (laid b n w) (n + 8) (word ok) ≡ laid b n (w ++ word ok) = rw (sym lw) (laid-further b n w (word ok)) in
       let a = length-append w (word ok) in
       let v : w ≡ sealOf (c .secret) 0x00 (counterOf (c .stage)) (c .ti) (take n b) = rw ek at ew in
       rw e (rw (sym v) (p ∙ rw q z, omega arith))

@@ -9,7 +9,7 @@ use Rattle.field.specs.Bytes.{Sized, Block, _⊞_, zeros}
 use Rattle.field.specs.Laws.{append-bytes, take-bytes, drop-bytes, elements, sum-block, block-twice, length-sum, zeros-block}
 use Rattle.fips197.specs.Keys.{keyExpansion}
 use Rattle.fips197.specs.Cipher.{cipher, invCipher}
-use Rattle.fips197.specs.Decrypts.{decrypts, encrypted-block, decrypted-block, length-cipher}
+use Rattle.fips197.specs.Decrypts.{decrypts, encrypted-block, length-cipher}
 use Rattle.cbc.specs.Cbc.{encryptedFrom, decryptedFrom, encrypted, decrypted}
 
 -- ---- a text of n + 1 blocks is a block and a text of n
@@ -77,15 +77,6 @@ module _ (k : List ℕ) (hk : Block k) where
       let he = next-block n c x hc hx in
       block-more n e (encryptedFrom w e n (drop 16 x)) he (encryptedFrom-sized n e (drop 16 x) he (other-blocks n x hx))
 
-  decryptedFrom-sized : (n : ℕ) (c x : List ℕ) → Block c → Sized (16 * n) x → Sized (16 * n) (decryptedFrom w c n x)
-  decryptedFrom-sized zero c x hc hx = record { long = refl; bytes = tt }
-  decryptedFrom-sized (suc n) c x hc hx =
-      let b = first-block n x hx in
-      let d = invCipher w (take 16 x) in
-      block-more n (d ⊞ c) (decryptedFrom w (take 16 x) n (drop 16 x))
-      (sum-block d c (decrypted-block k (take 16 x) hk b .bytes) (hc .bytes))
-      (decryptedFrom-sized n (take 16 x) (drop 16 x) b (other-blocks n x hx))
-
   undone-from : (n : ℕ) (c x : List ℕ) → Block c → Sized (16 * n) x → decryptedFrom w c n (encryptedFrom w c n x) ≡ x
   undone-from zero c x hc hx = elements 0 x (hx .long)
   undone-from (suc n) c x hc hx =
@@ -104,10 +95,6 @@ module _ (k : List ℕ) (hk : Block k) where
     pub encrypted-sized : Sized (16 * n) (encrypted k x)
     unfolding encrypted
     encrypted-sized = rw (blocks-of n x hx) (encryptedFrom-sized n zeros x zeros-block hx)
-
-    pub decrypted-sized : Sized (16 * n) (decrypted k x)
-    unfolding decrypted
-    decrypted-sized = rw (blocks-of n x hx) (decryptedFrom-sized n zeros x zeros-block hx)
 
   pub undone : (n : ℕ) (x : List ℕ) → Sized (16 * n) x → decrypted k (encrypted k x) ≡ x
   unfolding encrypted decrypted

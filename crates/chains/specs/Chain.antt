@@ -4,22 +4,23 @@ use mathlib.Core.Bool.{Bool, not, _&&_, _||_}
 use mathlib.Core.List.{List}
 use lib.Dec.{ltb, leb, eqb}
 use Rattle.tables.specs.Choice.{pick}
-use Rattle.datafiles.specs.Files.{sizeOf}
-use Rattle.columns.specs.Table.{isData}
-use Rattle.frames.specs.Frame.{fileOf, offsetOf, lengthOf}
+use Rattle.roles.specs.declared.Role.{Role}
+use Rattle.roles.specs.declared.Role.the-variants.{NoFile}
+use Rattle.roles.specs.Roles.{isData, isFile, sizeOf}
+use Rattle.frames.specs.Frame.{offsetOf, lengthOf}
 use Rattle.chains.specs.declared.Chain.{Chain}
 
 -- no chain
 unfoldable pub unchained : Chain
-unchained = record { file = 0; place = 0; len = 0; left = 0 }
+unchained = record { file = NoFile; place = 0; len = 0; left = 0 }
 
 -- bytes of it are still to come
 abbrev pub isOpen : Chain → Bool
 isOpen k = not (eqb (k .left) 0)
 
--- as an opening's data field d announces it: file, offset, length
-unfoldable pub announced : List ℕ → Chain
-announced d = record { file = fileOf d; place = offsetOf d; len = lengthOf d; left = lengthOf d }
+-- as an opening's data field d announces it for the file that it names: offset, length
+unfoldable pub announced : Role → List ℕ → Chain
+announced r d = record { file = r; place = offsetOf d; len = lengthOf d; left = lengthOf d }
 
 -- ---- a frame of n file bytes
 
@@ -45,9 +46,9 @@ wrongBytes k n = eqb n 0 || ltb mostBytes n || ltb (k .left) n
 
 -- ---- the standing rule
 
--- without a chain every figure is 0; an open one has a data file, and its range lies inside the file; that at least one byte is
+-- without a chain it names no file and every figure is 0; an open one has a data file, and its range lies inside the file; that at least one byte is
 -- left is what open means
 unfoldable pub chainSound : Chain → Bool
 chainSound k =
-    pick (eqb (k .left) 0) (eqb (k .file) 0 && eqb (k .place) 0 && eqb (k .len) 0)
+    pick (eqb (k .left) 0) (not (isFile (k .file)) && eqb (k .place) 0 && eqb (k .len) 0)
     (isData (k .file) && leb (k .place + k .len) (sizeOf (k .file)) && leb (k .left) (k .len))

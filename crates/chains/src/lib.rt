@@ -1,12 +1,12 @@
 // A write that comes in several frames: what its opening announced, and how much of it is still to come.
-use datafiles::Files;
+use roles::Role;
 ghost use mathlib.Core.Path.{_≡_};
 ghost use Rattle.chains.specs.Chain.{unchained, announced, nextPlace, shortened, wrongBytes, chainSound};
 
 // The file, the place of the first byte, the length that was announced, and how many bytes of it are still to come. A chain is
-// open where some are; without one all figures are 0.
+// open where some are; without one it names no file, and all figures are 0.
 pub struct Chain {
-    pub file: u8,
+    pub file: Role,
     pub place: u32,
     pub len: u32,
     pub left: u32,
@@ -21,20 +21,20 @@ impl Chain {
         ensures { λ r. ⌜ r ≡ unchained ⌝ }
     {
         Chain {
-            file: 0,
+            file: Role::NoFile,
             place: 0,
             len: 0,
             left: 0,
         }
     }
 
-    // The chain that an opening's data field announces.
-    pub fn announced(d: &[u8]) -> Chain
-        ensures { λ r. ⌜ r ≡ announced (now (d .entry)) ⌝ }
+    // The chain that an opening's data field announces for the file that it names.
+    pub fn announced(file: Role, d: &[u8]) -> Chain
+        ensures { λ r. ⌜ r ≡ announced file (now (d .entry)) ⌝ }
     {
         let len = wire::le3_at(d, 4);
         Chain {
-            file: wire::byte_at(d, 0),
+            file,
             place: wire::le3_at(d, 1),
             len,
             left: len,
@@ -65,24 +65,28 @@ impl Chain {
         if self.left as usize <= n {
             return Chain::none();
         }
+        let file = self.file;
         Chain {
-            file: self.file,
+            file,
             place: self.place,
             len: self.len,
             left: self.left - n as u32,
         }
     }
 
-    // Whether it keeps the standing rule: without a chain every figure is 0, and an open one has a data file and a range inside it.
+    // Whether it keeps the standing rule: without a chain it names no file and every figure is 0, and an open one has a data file
+    // and a range inside it.
     pub fn is_sound(self) -> bool
         ensures { λ r. ⌜ r ≡ chainSound self ⌝ }
     {
+        let file = self.file;
         if self.left == 0 {
-            return (self.file == 0) & (self.place == 0) & (self.len == 0);
+            let named = file.is_file();
+            return !named & (self.place == 0) & (self.len == 0);
         }
-        let size = Files::size(self.file);
+        let size = file.size();
         let end = self.place as usize + self.len as usize;
-        let bytes = columns::is_data(self.file);
+        let bytes = file.is_data();
         bytes & (end <= size) & (self.left <= self.len)
     }
 }

@@ -6,6 +6,7 @@ use frames::Faults;
 use keys::Keys;
 use logbook::Log;
 use purse::Purse;
+use roles::Role;
 use settings::Settings;
 ghost use mathlib.Core.Path.{_≡_};
 ghost use Rattle.rows.specs.State.{coreOf};
@@ -41,10 +42,12 @@ pub const OUTSIDE: u16 = 0x91BE;
 
 pub const NOTHING_PENDING: u16 = 0x910C;
 
-// What the order of checks leaves: the status, and whether the command carries a MAC, for the making of the reply.
+// What the order of checks leaves: the status, and for an accepted command whether it carries a MAC and the role of the file that
+// it names.
 pub struct Checked {
     pub status: u16,
     pub maced: bool,
+    pub role: Role,
 }
 
 // Places 1 to 4: the first that applies names the status.
@@ -140,6 +143,7 @@ pub fn check(
         return Checked {
             status: s,
             maced: false,
+            role: Role::NoFile,
         };
     }
     let ins = wire::byte_at(frame, 1);
@@ -160,7 +164,12 @@ pub fn check(
         p.nothing,
     );
     let maced = p.maced;
-    Checked { status, maced }
+    let role = p.role;
+    Checked {
+        status,
+        maced,
+        role,
+    }
 }
 
 // The status of a frame of file bytes: the first of its two reasons, or OK.

@@ -1,8 +1,9 @@
--- The command table and the file table.
+-- The command table, and which kind of file suits a command.
 use Prim.Native.Nat.{ℕ}
 use mathlib.Core.Bool.{Bool, _&&_, _||_}
 use lib.Dec.{eqb}
-use Rattle.datafiles.specs.Files.{data00, data04, data1F}
+use Rattle.roles.specs.declared.Role.{Role}
+use Rattle.roles.specs.Roles.{isData, isValue, isLog}
 
 -- ---- INS
 
@@ -87,20 +88,7 @@ byRead i = eqb i readData || eqb i getValue || eqb i debit || eqb i readRecords
 abbrev pub byWrite : ℕ → Bool
 byWrite i = eqb i writeData || eqb i getValue || eqb i debit || eqb i limitedCredit || eqb i writeRecord
 
--- ---- the file table
+-- ---- a file of this role is of the kind on which the command acts
 
-abbrev pub value03 : ℕ
-value03 = 0x03
-
-abbrev pub log01 : ℕ
-log01 = 0x01
-
-abbrev pub isData : ℕ → Bool
-isData n = eqb n data00 || eqb n data04 || eqb n data1F
-
-unfoldable pub isFile : ℕ → Bool
-isFile n = isData n || eqb n value03 || eqb n log01
-
--- file n is of the kind on which the command acts
-unfoldable pub suits : ℕ → ℕ → Bool
-suits i n = (onData i && isData n) || (onValue i && eqb n value03) || (onLog i && eqb n log01)
+unfoldable pub suits : ℕ → Role → Bool
+suits i r = (onData i && isData r) || (onValue i && isValue r) || (onLog i && isLog r)

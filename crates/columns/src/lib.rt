@@ -1,9 +1,9 @@
-// The command table and the file table.
+// The command table, and which kind of file suits a command.
 pub mod table;
 
-use datafiles::Files;
+use roles::Role;
 ghost use mathlib.Core.Path.{_≡_};
-ghost use Rattle.columns.specs.Table.{onData, onValue, onLog, onFile, namesFile, ends, byRead, byWrite, isData, suits};
+ghost use Rattle.columns.specs.Table.{onData, onValue, onLog, onFile, namesFile, ends, byRead, byWrite, suits};
 ghost use Rattle.columns.specs.Row.{rowOf};
 
 // A command's row of the command table.
@@ -92,25 +92,12 @@ fn by_write(ins: u8) -> bool
         | (ins == table::WRITE_RECORD)
 }
 
-pub fn is_data(n: u8) -> bool
-    ensures { λ r. ⌜ r ≡ isData n ⌝ }
+// Whether a file of this role is of the kind on which the command acts.
+pub fn suits_file(ins: u8, role: Role) -> bool
+    ensures { λ r. ⌜ r ≡ suits ins role ⌝ }
 {
-    (n == Files::DATA_00) | (n == Files::DATA_04) | (n == Files::DATA_1F)
-}
-
-// Whether file n is of the kind on which the command acts.
-pub fn suits_file(ins: u8, n: u8) -> bool
-    ensures { λ r. ⌜ r ≡ suits ins n ⌝ }
-{
-    let value = on_value(ins);
-    if value & (n == table::VALUE_03) {
-        return true;
-    }
-    let bytes = is_data(n);
     let data = on_data(ins);
-    if data & bytes {
-        return true;
-    }
+    let value = on_value(ins);
     let log = on_log(ins);
-    log & (n == table::LOG_01)
+    (data & role.is_data()) | (value & role.is_value()) | (log & role.is_log())
 }

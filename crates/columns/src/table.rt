@@ -1,4 +1,4 @@
-// The command table and the file table by number.
+// The command table by number.
 pub const READ_DATA: u8 = 0xAD;
 
 pub const WRITE_DATA: u8 = 0x8D;
@@ -27,7 +27,3 @@ pub const GET_FILE_SETTINGS: u8 = 0xF5;
 pub const AUTHENTICATE_FIRST: u8 = 0x71;
 
 pub const AUTHENTICATE_SECOND: u8 = 0xAF;
-
-pub const VALUE_03: u8 = 0x03;
-
-pub const LOG_01: u8 = 0x01;

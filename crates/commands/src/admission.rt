@@ -6,9 +6,10 @@ use channel::Stage;
 use columns::Row;
 use columns::table;
 use keys::Keys;
+use roles::Role;
 ghost use mathlib.Core.Path.{_≡_};
 ghost use Rattle.access.specs.Rights.{isNever, isNotGranted};
-ghost use Rattle.columns.specs.Table.{isBase, isFile};
+ghost use Rattle.columns.specs.Table.{isBase};
 ghost use Rattle.rows.specs.Rows.{unknownCommand, interrupts, sentOf, wrongLength, lacksMac, unknownFile, otherKindOrNever, notGranted, partFails, forged, usedUp, carries};
 
 fn is_base(ins: u8) -> bool
@@ -86,18 +87,11 @@ pub fn lacks_mac(maced: bool, x: &[u8]) -> bool
     maced & (x.len() < modes::MAC_SIZE)
 }
 
-fn is_file(n: u8) -> bool
-    ensures { λ r. ⌜ r ≡ isFile n ⌝ }
-{
-    let bytes = columns::is_data(n);
-    bytes | (n == table::VALUE_03) | (n == table::LOG_01)
-}
-
-pub fn unknown_file(ins: u8, n: u8) -> bool
-    ensures { λ r. ⌜ r ≡ unknownFile ins n ⌝ }
+pub fn unknown_file(ins: u8, role: Role) -> bool
+    ensures { λ r. ⌜ r ≡ unknownFile ins role ⌝ }
 {
     let row = Row::of_command(ins);
-    let known = is_file(n);
+    let known = role.is_file();
     row.names & !known
 }
 
@@ -124,11 +118,11 @@ fn is_not_granted(access: Access) -> bool
     }
 }
 
-pub fn other_kind_or_never(ins: u8, n: u8, access: Access) -> bool
-    ensures { λ r. ⌜ r ≡ otherKindOrNever ins n access ⌝ }
+pub fn other_kind_or_never(ins: u8, role: Role, access: Access) -> bool
+    ensures { λ r. ⌜ r ≡ otherKindOrNever ins role access ⌝ }
 {
     let row = Row::of_command(ins);
-    let suited = columns::suits_file(ins, n);
+    let suited = columns::suits_file(ins, role);
     let never = is_never(access);
     row.file & (!suited | never)
 }

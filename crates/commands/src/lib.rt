@@ -5,12 +5,14 @@ use channel::Channel;
 use keys::Keys;
 use logbook::Log;
 use purse::Purse;
+use roles::Role;
 use settings::Settings;
 ghost use mathlib.Core.Path.{_≡_};
 ghost use Rattle.logbook.specs.View.{view};
 ghost use Rattle.commands.specs.Places.{placesOf};
 
-// Which of the places apply, in their order, and whether the command carries a MAC: an accepted one takes that on.
+// Which of the places apply, in their order, and what an accepted command takes on: whether it carries a MAC, and the role of the
+// file that it names.
 pub struct Places {
     pub command: bool,
     pub waits: bool,
@@ -25,6 +27,7 @@ pub struct Places {
     pub range: bool,
     pub nothing: bool,
     pub maced: bool,
+    pub role: Role,
 }
 
 impl Places {
@@ -43,27 +46,30 @@ impl Places {
     {
         let stage = channel.stage;
         let chain = channel.chain;
-        let n = wire::byte_at(x, 0);
-        let access = settings.access_to(stage.acting(), ins, n);
-        let sealed = modes::is_maced(access, settings, stage, ins, x);
+        let named = modes::named(settings, x);
+        let role = named.role;
+        let file = named.file;
+        let access = settings.access_by(file.rights, stage.acting(), ins);
+        let sealed = modes::is_maced(access, file.maced, stage, ins);
         let maced = admission::carries(opening, sealed);
         let d = modes::plain(maced, x);
         Places {
             command: admission::unknown_command(opening, stage, ins),
             waits: admission::interrupts(stage, chain, ins),
             length: admission::wrong_length(opening, ins, d) | admission::lacks_mac(maced, x),
-            file: admission::unknown_file(ins, n),
-            kind: admission::other_kind_or_never(ins, n, access),
+            file: admission::unknown_file(ins, role),
+            kind: admission::other_kind_or_never(ins, role, access),
             grant: admission::not_granted(ins, access)
                 | admission::part_fails(keys, channel, ins, d),
             chain: opening & sealed,
             seal: admission::is_forged(channel, maced, ins, x) | admission::used_up(stage, ins),
             off: parameters::switched_off(ins, settings.limited, log.clears),
             value: parameters::bad_parameter(ins, d),
-            range: parameters::is_outside(settings.limits, purse, log.count, ins, d)
-                | parameters::is_long_read(maced, ins, d),
+            range: parameters::is_outside(settings.limits, purse, log.count, ins, role, d)
+                | parameters::is_long_read(maced, ins, role, d),
             nothing: parameters::nothing_pending(ins, purse.moved, log.adds | log.clears),
             maced,
+            role,
         }
     }
 }

@@ -6,11 +6,14 @@ use mathlib.Core.List.{List, [], _∷_, _++_}
 use mathlib.Core.Path.{_≡_}
 use lib.ListN.{length, take}
 use Rattle.wire.specs.Bytes.{laid}
+use Rattle.roles.specs.declared.Role.{Role}
+use Rattle.roles.specs.Roles.{isData}
 use Rattle.datafiles.specs.Files.{bytesOf}
 use Rattle.chains.specs.Chain.{unchained, mostBytes}
 use Rattle.channel.specs.declared.Inputs.{Inputs}
-use Rattle.frames.specs.Frame.{insOf, dataOf, fileOf, offsetOf, lengthOf, bytesIn}
-use Rattle.columns.specs.Table.{writeData, isData}
+use Rattle.frames.specs.Frame.{insOf, dataOf, offsetOf, lengthOf, bytesIn}
+use Rattle.columns.specs.Table.{writeData}
+use Rattle.modes.specs.Modes.{roleIn}
 use Rattle.rows.specs.Rows.{ok, macedIn, statusOf, openingStatus, bytesStatus}
 use Rattle.card.specs.declared.Card.{Card}
 use Rattle.card.specs.View.{view}
@@ -39,11 +42,12 @@ Ends c (delivers b) = bytesStatus (c .channel .chain) b ≡ ok → ⊥
 Ends c (session k known) = Unit {0}
 Ends c power = Unit {0}
 
--- the card c; d is the data field of the opening, bs the frames that came, and after the card behind the end
-pub record Torn (c : Card) (d : List ℕ) (bs : List (List ℕ)) (after : Card) : Type 0 where
+-- the card c; r is the role of the file that the opening names, d its data field, bs the frames that came, and after the card behind
+-- the end
+pub record Torn (c : Card) (r : Role) (d : List ℕ) (bs : List (List ℕ)) (after : Card) : Type 0 where
   -- the file has its old bytes with those of the frames laid from the offset on, and the other data files are as before
-  pub file : bytesOf (after .files) (fileOf d) ≡ laid (bytesOf (c .files) (fileOf d)) (offsetOf d) (flat bs)
-  pub others : (n : ℕ) → isData n ≡ true → (n ≡ fileOf d → ⊥) → bytesOf (after .files) n ≡ bytesOf (c .files) n
+  pub file : bytesOf (after .files) r ≡ laid (bytesOf (c .files) r) (offsetOf d) (flat bs)
+  pub others : (q : Role) → isData q ≡ true → (q ≡ r → ⊥) → bytesOf (after .files) q ≡ bytesOf (c .files) q
   -- the books are the committed ones, and the rest of the chain is gone
   pub books : booksOf (view after) ≡ booksOf (view c)
   pub chain : after .channel .chain ≡ unchained
@@ -51,7 +55,7 @@ pub record Torn (c : Card) (d : List ℕ) (bs : List (List ℕ)) (after : Card) 
 -- an accepted opening f, then frames that it has announced, then an end
 abbrev pub Tears : Type 0
 Tears = (c : Card) → Kept c → (f : List ℕ) → openingStatus (view c .core) f ≡ ok → (bs : List (List ℕ)) → FrameSizes bs → length (flat bs) ≤ lengthOf (dataOf f)
-    → (e : Event) → Ends (run next c (opens f ∷ delivery bs)) e → Torn c (dataOf f) bs (next (run next c (opens f ∷ delivery bs)) e)
+    → (e : Event) → Ends (run next c (opens f ∷ delivery bs)) e → Torn c (roleIn (c .settings) (dataOf f)) (dataOf f) bs (next (run next c (opens f ∷ delivery bs)) e)
 
 -- ---- a whole chain
 

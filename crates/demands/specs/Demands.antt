@@ -1,5 +1,5 @@
 -- The three demands, stated: each field is a sentence. The theorems demand1, demand2, standing, demand3, equal-replies and in-code prove them.
-use Prim.Native.Nat.{ℕ, _+_, _≤_, _<_}
+use Prim.Native.Nat.{ℕ, _+_, _*_, _≤_, _<_}
 use mathlib.Core.Bool.{Bool, true, false, _||_}
 use mathlib.Core.List.{List, [], _∷_, _++_}
 use mathlib.Core.Logic.{_↔_, _⊎_}
@@ -9,7 +9,11 @@ use lib.IntN.{ℤ}
 use lib.ListN.{length}
 use Rattle.tables.specs.Reasons.{Reason, NoReason}
 use Rattle.wire.specs.Bytes.{laid, word}
+use Rattle.roles.specs.declared.Role.{Role}
+use Rattle.roles.specs.Roles.{sizeOf}
+use Rattle.datafiles.specs.Files.{bytesOf}
 use Rattle.limits.specs.Limits.{within}
+use Rattle.logbook.specs.Journal.{entrySize, mostEntries}
 use Rattle.keys.specs.declared.Keys.{Keys}
 use Rattle.channel.specs.declared.Channel.{Channel}
 use Rattle.channel.specs.declared.Inputs.{Inputs}
@@ -22,7 +26,7 @@ use Rattle.card.specs.declared.Reply.{Reply}
 use Rattle.card.specs.View.{view, broken}
 use Rattle.card.specs.Outcome.{Outcome, Answered}
 use Rattle.standing.specs.Rules.{orderRefusal}
-use Rattle.card.specs.Events.{Played, refused, accepted, opening, delivered, laidInto, commanded, chainOpened, bytesSent, issued}
+use Rattle.card.specs.Events.{Played, refused, accepted, opening, delivered, laidInto, commanded, chainOpened, bytesSent, issued, replyRoom}
 use Rattle.demands.specs.Books.{booked}
 use Rattle.demands.specs.DataFiles.{filed}
 use Rattle.demands.specs.History.{Event, power, outcome, next, Said, said, run, along, bookAccount, fileAccount, traced, booksOf}
@@ -30,11 +34,9 @@ use Rattle.demands.specs.History.{Event, power, outcome, next, Said, sai
 -- a card that keeps the standing rules; its fields have the sizes that their types give them
 pub record Kept (c : Card) : Type 0 where
   pub rules : broken c ≡ false
-  pub f00 : length (c .files .f00) ≡ 256
-  pub f04 : length (c .files .f04) ≡ 256
-  pub f1f : length (c .files .f1f) ≡ 32
-  pub slots : length (c .log .slots) ≡ 64
-  pub entry : length (c .log .entry) ≡ 16
+  pub files : (r : Role) → length (bytesOf (c .files) r) ≡ sizeOf r
+  pub slots : length (c .log .slots) ≡ entrySize * mostEntries
+  pub entry : length (c .log .entry) ≡ entrySize
   pub secret : length (c .channel .secret) ≡ 16
   pub ti : length (c .channel .ti) ≡ 4
   pub caps : length (c .channel .caps) ≡ 6
@@ -77,7 +79,7 @@ pub record Replied (c : Card) (before after : List ℕ) (r : Reply) : Type 0 whe
   pub listed : among status statuses ≡ true
   pub bytes : after ≡ laid before 0 (shown ++ word status)
   pub len : r .len ≡ length shown + 2
-  pub room : r .len ≤ 258
+  pub room : r .len ≤ replyRoom
   pub refusal : r .refusal ≡ 0
   pub refused : Refusal status → (shown ≡ []) × Untouched c (r .card)
 
@@ -89,13 +91,13 @@ pub record Silent (before after : List ℕ) (r : Reply) : Type 0 where
 
 -- the method `command`, as its contract says, left this buffer and returned r
 pub record Demand1 (c : Card) (before after : List ℕ) (r : Reply) : Type 0 where
-  pub replied : Kept c → 258 ≤ length before → Replied c before after r
-  pub short : length before < 258 → (r .card ≡ c) × (after ≡ before)
+  pub replied : Kept c → replyRoom ≤ length before → Replied c before after r
+  pub short : length before < replyRoom → (r .card ≡ c) × (after ≡ before)
 
 -- the same for `open_chain` and `file_frame`
 pub record Demand1Chain (c : Card) (before after : List ℕ) (r : Reply) : Type 0 where
-  pub replied : Kept c → 258 ≤ length before → Replied c before after r ⊎ Silent before after r
-  pub short : length before < 258 → (r .card ≡ c) × (after ≡ before)
+  pub replied : Kept c → replyRoom ≤ length before → Replied c before after r ⊎ Silent before after r
+  pub short : length before < replyRoom → (r .card ≡ c) × (after ≡ before)
 
 -- ---- demand 2: refused exactly when a row of the table applies, by the first such row
 
@@ -113,9 +115,9 @@ pub record FirstRow (rows : List Reason) (status : ℕ) : Type 0 where
   pub applies : row .applies ≡ true
   pub names : row .status ≡ status
 
--- an event with a reply buffer does what p says, whatever the room above 258
+-- an event with a reply buffer does what p says, whatever the room, of 258 bytes or more
 abbrev pub Plays : Card → (ℕ → Outcome) → Played → Type 0
-Plays c event p = (room : ℕ) → 258 ≤ room → event room ≡ laidInto c p
+Plays c event p = (room : ℕ) → replyRoom ≤ room → event room ≡ laidInto c p
 
 abbrev pub Refuses : Card → (ℕ → Outcome) → ℕ → Type 0
 Refuses c event status = Plays c event (refused (view c) status)
@@ -140,7 +142,7 @@ pub record Demand2 (c : Card) (f b : List ℕ) : Type 0 where
 abbrev pub Clean : Channel → Type 0
 Clean k = isReal (k .stage) ≡ false → isWaiting (k .stage) ≡ false → k ≡ chained (bare (k .stage)) (k .chain)
 
--- an accepted personalisation: bench refusals 1 to 3 are not given
+-- an accepted personalisation: bench refusals 1 to 3, 7 and 8 are not given
 abbrev pub Taken : Settings → ℤ → Type 0
 Taken s v = orderRefusal s v ≡ 0
 

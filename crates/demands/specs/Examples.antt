@@ -1,6 +1,6 @@
 -- Computed examples on the rules paper's card: no model that is idle, refuses all, has one reply or stops after one transaction.
 use Prim.Native.Nat.{ℕ}
-use mathlib.Core.Bool.{true}
+use mathlib.Core.Bool.{true, false}
 use mathlib.Core.List.{List, [], _∷_, _++_}
 use mathlib.Core.Path.{_≡_, refl}
 use lib.IntN.{pos}
@@ -41,7 +41,7 @@ program = settings.alike 0xEEEE (record { lower = pos 0; upper = pos 1000 }) tru
 
 -- the replies along a history of the program's card; to unfold this is to unfold all that a computed reply needs
 unfoldable pub replies : List Event → List Said
-unfolding pick laid laidIn outsideOf le3 le4 word files.sizeOf files.bytesOf files.zeros files.endOf files.shown files.written crossed within purse.resting purse.credited purse.debited purse.rebooked purse.settled purse.dropped rules.unequal journal.blank journal.joined journal.shown journal.freshOr journal.written journal.cleared journal.pushed journal.resting journal.settled journal.stored journal.dropped ring.ringed ring.laidRound log.view journal.some log.put log.empty access.rightsSound access.sealed access.granting access.accessOf frame.wrongSize frame.wrongClass frame.wrongParameters frame.wrongFrame table.onFile table.namesFile table.isFile table.suits settings.rightsOf settings.accessTo settings.rightsBroken state.logPending rows.unknownCommand rows.interrupts rows.sentOf rows.lengthCases rows.lacksMac rows.unknownFile rows.otherKindOrNever rows.notGranted rows.partFails rows.forged rows.usedUp rows.switchedOff rows.parameterCases rows.ranged rows.roomOf rows.amountCases rows.outside rows.longRead rows.nothingPending rows.rowsFor rows.statusFor rows.bytesStatus effects.purseAfter effects.journalAfter effects.storedAfter effects.filesAfter shownOf card.view card.put rules.brokenBy outcomes.replyOf outcomes.bench events.channelAfter events.changed events.shown events.macBehind events.acceptedStatus events.acceptedPlain events.ended events.refused events.accepted events.played events.laidInto events.benchRefusal events.commanded events.opening events.openingPlayed events.chainOpened events.delivered events.bytesPlayed events.bytesSent events.withSession events.sessionChanged events.poweredUp events.issued outcome said along run settings.alike keys.zeros channel.counted channel.bare channel.chained channel.advanced chain.unchained chain.announced chain.shortened chain.wrongBytes chain.chainSound modes.macedUnder modes.plainOf program
+unfolding pick laid laidIn outsideOf le3 le4 word files.zeros files.endOf files.shown crossed within purse.resting purse.credited purse.debited purse.rebooked purse.settled purse.dropped rules.unequal journal.blank journal.joined journal.shown journal.freshOr journal.written journal.cleared journal.pushed journal.resting journal.settled journal.stored journal.dropped ring.ringed ring.laidRound log.view journal.some log.put log.empty access.rightsSound access.sealed access.granting access.accessOf frame.wrongSize frame.wrongClass frame.wrongParameters frame.wrongFrame table.onFile table.namesFile table.suits settings.roleOf settings.accessTo settings.rightsBroken settings.numberAbove settings.numberTwice state.logPending rows.unknownCommand rows.interrupts rows.sentOf rows.lengthCases rows.lacksMac rows.unknownFile rows.otherKindOrNever rows.notGranted rows.partFails rows.forged rows.usedUp rows.switchedOff rows.parameterCases rows.ranged rows.roomOf rows.amountCases rows.outside rows.longRead rows.nothingPending rows.rowsFor rows.statusFor rows.bytesStatus effects.purseAfter effects.journalAfter effects.storedAfter effects.filesAfter shownOf card.view card.put rules.brokenBy outcomes.replyOf outcomes.bench events.channelAfter events.changed events.shown events.macBehind events.acceptedStatus events.acceptedPlain events.ended events.refused events.accepted events.played events.laidInto events.benchRefusal events.commanded events.opening events.openingPlayed events.chainOpened events.delivered events.bytesPlayed events.bytesSent events.withSession events.sessionChanged events.poweredUp events.issued outcome said along run settings.alike keys.zeros channel.counted channel.bare channel.chained channel.advanced chain.unchained chain.announced chain.shortened chain.wrongBytes chain.chainSound modes.roleIn modes.macedUnder modes.plainOf program
 replies es = along next said (events.issued program keys.zeros (pos 100)) es
 
 -- the books over such a history
@@ -68,7 +68,7 @@ says bytes = record { refusal = 0; bytes = bytes; len = length bytes }
 
 -- the personalisation is accepted
 pub taken : rules.orderRefusal program (pos 100) ≡ 0
-unfolding replies rules.orderRefusal
+unfolding replies rules.firstFault rules.orderRefusal
 taken = refl
 
 -- no model that refuses everything: Credit 900 is taken, 901 is not
@@ -154,3 +154,22 @@ pub torn-write : replies
     ∷ []
 unfolding replies
 torn-write = refl
+
+-- no model that goes by the old numbers: the program's card with its files numbered 10h to 14h
+unfoldable pub numbered : Settings
+numbered =
+    record {
+      first = record { number = 0x10; rights = 0xEEEE; maced = false };
+      second = record { number = 0x11; rights = 0xEEEE; maced = false };
+      short = record { number = 0x12; rights = 0xEEEE; maced = false };
+      value = record { number = 0x13; rights = 0xEEEE; maced = false };
+      log = record { number = 0x14; rights = 0xEEEE; maced = false };
+      limits = record { lower = pos 0; upper = pos 1000 };
+      limited = true;
+      free = false;
+    }
+
+pub own-numbers : along next said (events.issued numbered keys.zeros (pos 100)) (sends 0x6C (0x13 ∷ []) ∷ sends 0x6C (0x10 ∷ []) ∷ sends 0x6C (0x03 ∷ []) ∷ [])
+    ≡ says (0x64 ∷ 0 ∷ 0 ∷ 0 ∷ 0x91 ∷ 0x00 ∷ []) ∷ says (0x91 ∷ 0x9D ∷ []) ∷ says (0x91 ∷ 0xF0 ∷ []) ∷ []
+unfolding replies numbered
+own-numbers = refl

@@ -1,5 +1,5 @@
 -- The card with the former log, whose commits moved the older entries. No code is behind it: it is what the ring is held against.
-use Prim.Native.Nat.{ℕ}
+use Prim.Native.Nat.{ℕ, _*_}
 use mathlib.Core.Bool.{Bool, false}
 use mathlib.Core.List.{List, []}
 use lib.IntN.{ℤ}
@@ -82,6 +82,6 @@ formerIssued s ks v =
       keys = ks;
       files = files.zeros;
       purse = purse.resting v 0;
-      log = record { slots = replicate 64 0; count = 0; entry = journal.blank; adds = false; clears = false };
+      log = record { slots = replicate (journal.entrySize * journal.mostEntries) 0; count = 0; entry = journal.blank; adds = false; clears = false };
       channel = closed;
     }

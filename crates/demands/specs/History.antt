@@ -8,18 +8,19 @@ use lib.ListN.{length}
 use Rattle.tables.specs.Choice.{pick}
 use Rattle.access.specs.declared.Session.{Session}
 use Rattle.access.specs.Rights.{sessionSound}
-use Rattle.frames.specs.Frame.{insOf, dataOf, fileOf, offsetOf, bytesIn, amountOf}
+use Rattle.roles.specs.declared.Role.{Role}
+use Rattle.frames.specs.Frame.{insOf, dataOf, offsetOf, bytesIn, amountOf}
 use Rattle.columns.specs.Table.{writeData, credit, debit, limitedCredit, writeRecord, clearRecordFile, commitTransaction, abortTransaction}
 use Rattle.chains.specs.declared.Chain.{Chain}
 use Rattle.chains.specs.Chain.{nextPlace}
 use Rattle.channel.specs.declared.Inputs.{Inputs}
 use Rattle.rows.specs.State.{Core, State}
-use Rattle.modes.specs.Modes.{plainOf}
+use Rattle.modes.specs.Modes.{roleIn, plainOf}
 use Rattle.rows.specs.Rows.{ok, macedIn, statusOf, openingStatus, bytesStatus}
 use Rattle.card.specs.declared.Card.{Card}
 use Rattle.card.specs.View.{view}
 use Rattle.card.specs.Outcome.{Outcome, replyOf}
-use Rattle.card.specs.Events.{Played, ended, played, openingPlayed, bytesPlayed, withSession, commanded, chainOpened, bytesSent, sessionChanged, poweredUp}
+use Rattle.card.specs.Events.{Played, ended, played, openingPlayed, bytesPlayed, withSession, commanded, chainOpened, bytesSent, sessionChanged, poweredUp, replyRoom}
 use Rattle.demands.specs.Strike.{Line, posted, closed, broken, idle}
 use Rattle.demands.specs.Books.{Op, paid-in, paid-out, rebooked, entered, cleared, Books}
 use Rattle.demands.specs.DataFiles.{Write}
@@ -43,9 +44,9 @@ pub data Event : Type 0 where
 
 -- what the definitions of demand 2 answer
 unfoldable pub outcome : Card → Event → Outcome
-outcome c (command f u handed) = commanded c f u 258
-outcome c (opens f) = chainOpened c f 258
-outcome c (delivers b) = bytesSent c b 258
+outcome c (command f u handed) = commanded c f u replyRoom
+outcome c (opens f) = chainOpened c f replyRoom
+outcome c (delivers b) = bytesSent c b replyRoom
 outcome c (session k known) = sessionChanged c k
 outcome c power = poweredUp c
 
@@ -96,9 +97,9 @@ bookLine i d =
     (pick (eqb i abortTransaction) broken
     idle))))))
 
--- an accepted command, for the data files
-unfoldable pub fileLine : ℕ → List ℕ → Line Write
-fileLine i d = pick (eqb i writeData) (posted (record { file = fileOf d; place = offsetOf d; bytes = bytesIn d })) idle
+-- an accepted command, for the data files; r is the role of the file that it names
+unfoldable pub fileLine : ℕ → Role → List ℕ → Line Write
+fileLine i r d = pick (eqb i writeData) (posted (record { file = r; place = offsetOf d; bytes = bytesIn d })) idle
 
 -- the data field of a frame without its MAC
 abbrev pub plainIn : Core → List ℕ → List ℕ
@@ -110,12 +111,12 @@ writeOf k b = record { file = k .file; place = nextPlace k; bytes = b }
 
 -- what an account notes of an accepted command, and of an accepted frame of file bytes
 pub record Account (X : Type 0) : Type 0 where
-  pub ofCommand : ℕ → List ℕ → Line X
+  pub ofCommand : ℕ → Role → List ℕ → Line X
   pub ofWrite : Write → Line X
 
 -- the books do not notice chains; for the data files each frame is a write
 abbrev pub bookAccount : Account Op
-bookAccount = record { ofCommand = bookLine; ofWrite = λ w. idle }
+bookAccount = record { ofCommand = λ i r d. bookLine i d; ofWrite = λ w. idle }
 
 abbrev pub fileAccount : Account Write
 fileAccount = record { ofCommand = fileLine; ofWrite = posted }
@@ -123,7 +124,7 @@ fileAccount = record { ofCommand = fileLine; ofWrite = posted }
 -- any event: what is refused and a power-up break off, a session change does not, nor do the parts of an authentication and the
 -- opening of a chain
 unfoldable pub lineBy : {X : Type 0} → Account X → State → Event → Line X
-lineBy a s (command f u handed) = pick (eqb (statusOf (s .core) f) ok) (a .ofCommand (insOf f) (plainIn (s .core) f)) broken
+lineBy a s (command f u handed) = pick (eqb (statusOf (s .core) f) ok) (a .ofCommand (insOf f) (roleIn (s .core .settings) (dataOf f)) (plainIn (s .core) f)) broken
 lineBy a s (opens f) = pick (eqb (openingStatus (s .core) f) ok) idle broken
 lineBy a s (delivers b) = pick (eqb (bytesStatus (s .core .channel .chain) b) ok) (a .ofWrite (writeOf (s .core .channel .chain) b)) broken
 lineBy a s (session k known) = idle

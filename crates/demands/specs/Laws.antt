@@ -16,3 +16,4 @@ pub mod Issued
 pub mod Room
 pub mod Clean
 pub mod Framed
+pub mod Exchanged

@@ -8,6 +8,7 @@ pub mod Sessions
 pub mod Chains
 pub mod Former
 pub mod Ring
+pub mod Numbers
 pub mod Examples
 pub mod Laws
 pub mod Proofs

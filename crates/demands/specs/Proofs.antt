@@ -1,4 +1,4 @@
--- The theorems: what Demands, Sessions, Chains and Ring state.
+-- The theorems: what Demands, Sessions, Chains, Ring and Numbers state.
 pub mod Demand1
 pub mod Demand2
 pub mod Demand3
@@ -11,3 +11,5 @@ pub mod Whole
 pub mod Forms
 pub mod Slots
 pub mod Worn
+pub mod Renumbered
+pub mod Addressed

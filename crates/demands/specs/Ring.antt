@@ -1,6 +1,6 @@
 -- What the ring promises: the former log's replies, slot bytes stored by a commit with a new entry alone, and slots that wear alike.
 -- The theorems equal-forms, slots-kept and worn prove it.
-use Prim.Native.Nat.{ℕ, _+_, _/_, _≤_, _<_}
+use Prim.Native.Nat.{ℕ, _+_, _*_, _/_, _≤_, _<_}
 use mathlib.Core.Bool.{Bool, true, false, not, _&&_}
 use mathlib.Core.List.{List, []}
 use mathlib.Core.Path.{_≡_}
@@ -54,11 +54,11 @@ commitsEntry s power = false
 -- the slots of the card c before the event e and after it
 pub record Slots (c : Card) (e : Event) : Type 0 where
   -- the count is the definition's: an entry's bytes, or none
-  pub count : storedAt c e ≡ pick (commitsEntry (view c) e) 16 0
+  pub count : storedAt c e ≡ pick (commitsEntry (view c) e) journal.entrySize 0
   -- the new entry lies in the slot behind the newest
   pub entry : commitsEntry (view c) e ≡ true → (placeOf (next c e) ≡ newer (placeOf c)) × (slot (placeOf (next c e)) (next c e .log .slots) ≡ c .log .entry)
   -- byte i is one of slot i / 16
-  pub others : (i : ℕ) → i < 64 → (i / 16 ≡ placeOf (next c e) → ⊥) → getD (next c e .log .slots) i 0 ≡ getD (c .log .slots) i 0
+  pub others : (i : ℕ) → i < journal.entrySize * journal.mostEntries → (i / journal.entrySize ≡ placeOf (next c e) → ⊥) → getD (next c e .log .slots) i 0 ≡ getD (c .log .slots) i 0
   -- nothing else stores, and the ring goes on where it was left
   pub still : commitsEntry (view c) e ≡ false → (placeOf (next c e) ≡ placeOf c) × (next c e .log .slots ≡ c .log .slots)
 

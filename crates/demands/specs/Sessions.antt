@@ -16,18 +16,18 @@ use Rattle.channel.specs.Channel.{isWaiting, counterOf, bare, chained}
 use Rattle.sealing.specs.Sealing.{sealOf}
 use Rattle.derivation.specs.Derivation.{macKey}
 use Rattle.frames.specs.Frame.{insOf, dataOf, lrpIn}
-use Rattle.modes.specs.Modes.{plainOf, macOf}
+use Rattle.modes.specs.Modes.{roleIn, plainOf, macOf}
 use Rattle.rows.specs.Rows.{longRead, macedIn, ok, statusOf}
 use Rattle.card.specs.declared.Card.{Card}
 use Rattle.card.specs.View.{view, onChannel}
 use Rattle.card.specs.Outcome.{Outcome}
-use Rattle.card.specs.Events.{commanded}
+use Rattle.card.specs.Events.{commanded, replyRoom}
 use Rattle.till.specs.Till.{firstFrame, learntB, secondPart, secondFrame, repliedTi, knowsUs, sealed, sealable}
 use Rattle.demands.specs.Demands.{Kept, Untouched, FirstRow, rowsOn}
 
 -- a command with room for its reply
 abbrev pub sends : Card → List ℕ → Inputs → Outcome
-sends c f u = commanded c f u 258
+sends c f u = commanded c f u replyRoom
 
 -- ---- what a MACed command does is what the same command does plain
 
@@ -42,7 +42,7 @@ onBench c k = onChannel c (chained (bare (Bench k)) (c .channel .chain))
 -- the card c under a real session with the key k, at command counter n
 pub record SealedAsPlain (c : Card) (k n : ℕ) (f : List ℕ) (u : Inputs) : Type 0 where
   pub accepted : (statusOf (view c .core) (macedFrame c f) ≡ ok)
-      ↔ ((statusOf (view (onBench c k) .core) f ≡ ok) × (n ≡ 0xFFFF → ⊥) × (longRead true (insOf f) (dataOf f) ≡ false))
+      ↔ ((statusOf (view (onBench c k) .core) f ≡ ok) × (n ≡ 0xFFFF → ⊥) × (longRead true (insOf f) (roleIn (c .settings) (dataOf f)) (dataOf f) ≡ false))
   -- and where it is accepted:
   pub files : statusOf (view c .core) (macedFrame c f) ≡ ok → sends c (macedFrame c f) u .card .files ≡ sends (onBench c k) f u .card .files
   pub purse : statusOf (view c .core) (macedFrame c f) ≡ ok → sends c (macedFrame c f) u .card .purse ≡ sends (onBench c k) f u .card .purse

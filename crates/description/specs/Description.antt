@@ -1,17 +1,18 @@
 -- What GetFileSettings shows; figures go least significant byte first.
 use Prim.Native.Nat.{ℕ, _+_}
 use mathlib.Core.List.{List, [], _∷_, _++_}
-use lib.Dec.{eqb, ltb}
+use lib.Dec.{ltb}
 use lib.ListN.{take}
 use mir.Syntax.{w32}
 use mir.Val.{ofZ}
 use Rattle.tables.specs.Choice.{pick}
 use Rattle.wire.specs.Bytes.{four}
-use Rattle.datafiles.specs.Files.{sizeOf}
+use Rattle.roles.specs.declared.Role.{Role}
+use Rattle.roles.specs.Roles.{isData, isValue, sizeOf}
 use Rattle.logbook.specs.Journal.{entrySize, mostEntries}
-use Rattle.columns.specs.Table.{isData, value03}
+use Rattle.settings.specs.declared.FileSettings.{FileSettings}
 use Rattle.settings.specs.declared.Settings.{Settings}
-use Rattle.settings.specs.Settings.{rightsOf, macFile}
+use Rattle.settings.specs.Settings.{fileAt}
 
 -- the first bytes of a number, as many as its field is wide
 abbrev pub figure : ℕ → ℕ → List ℕ
@@ -38,16 +39,17 @@ unfoldable pub switchesOf : Settings → ℕ
 switchesOf s = pick (s .limited) 1 0 + pick (s .free) 2 0
 
 -- the option byte: 01h for a file in MAC mode, else 00h
-unfoldable pub optionOf : Settings → ℕ → ℕ
-optionOf s n = pick (macFile s n) 0x01 0x00
+unfoldable pub optionOf : FileSettings → ℕ
+optionOf f = pick (f .maced) 0x01 0x00
 
--- file n by its kind, with the committed allowance and the committed number of entries
-unfoldable pub described : Settings → ℕ → ℕ → ℕ → List ℕ
-described s allowance entries n =
-    pick (isData n) (ofData (optionOf s n) (rightsOf s n) (sizeOf n))
-    (pick (eqb n value03) (ofValue (optionOf s n) (rightsOf s n) (ofZ w32 (s .limits .lower)) (ofZ w32 (s .limits .upper)) allowance (switchesOf s))
-    (ofLog (optionOf s n) (rightsOf s n) entrySize mostEntries entries))
+-- the file of role r by its kind, with the committed allowance and the committed number of entries
+unfoldable pub described : Settings → ℕ → ℕ → Role → List ℕ
+described s allowance entries r =
+    let f = fileAt s r in
+    pick (isData r) (ofData (optionOf f) (f .rights) (sizeOf r))
+    (pick (isValue r) (ofValue (optionOf f) (f .rights) (ofZ w32 (s .limits .lower)) (ofZ w32 (s .limits .upper)) allowance (switchesOf s))
+    (ofLog (optionOf f) (f .rights) entrySize mostEntries entries))
 
 -- in a buffer of this room
-unfoldable pub describedIn : ℕ → Settings → ℕ → ℕ → ℕ → List ℕ
-describedIn room s allowance entries n = pick (ltb room 17) [] (described s allowance entries n)
+unfoldable pub describedIn : ℕ → Settings → ℕ → ℕ → Role → List ℕ
+describedIn room s allowance entries r = pick (ltb room 17) [] (described s allowance entries r)

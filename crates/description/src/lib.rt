@@ -1,7 +1,7 @@
 // What GetFileSettings shows of a file: its kind, option byte, rights, and what its kind has.
-use columns::table;
-use datafiles::Files;
 use logbook::Log;
+use roles::Role;
+use settings::FileSettings;
 use settings::Settings;
 ghost use mathlib.Core.Path.{_≡_};
 ghost use Prim.Native.Nat.{_+_, _≤_};
@@ -46,10 +46,10 @@ fn switches(settings: Settings) -> u8
 }
 
 // 01h for a file in MAC mode, else 00h.
-fn option_of(settings: Settings, n: u8) -> u8
-    ensures { λ r. ⌜ r ≡ optionOf settings n ⌝ }
+fn option_of(file: FileSettings) -> u8
+    ensures { λ r. ⌜ r ≡ optionOf file ⌝ }
 {
-    if settings.has_mac(n) {
+    if file.maced {
         return 0x01;
     }
     0x00
@@ -75,24 +75,24 @@ fn show_value(
     17
 }
 
-// Lays the settings of file n over the front of reply.
-pub fn show(settings: Settings, allowance: u32, entries: u8, n: u8, reply: &mut [u8]) -> usize
-    ensures { λ r. ⌜ Shows (describedIn (length (now (reply .entry))) settings allowance entries n) (now (reply .entry)) (now (reply .exit)) r ⌝ }
+// Lays the settings of the file of a role over the front of reply.
+pub fn show(settings: Settings, allowance: u32, entries: u8, role: Role, reply: &mut [u8]) -> usize
+    ensures { λ r. ⌜ Shows (describedIn (length (now (reply .entry))) settings allowance entries role) (now (reply .entry)) (now (reply .exit)) r ⌝ }
 {
     if reply.len() < 17 {
         return 0;
     }
-    let option = option_of(settings, n);
-    let rights = settings.rights(n);
-    if columns::is_data(n) {
-        lay_head(0x00, option, rights, reply);
-        lay_figure(Files::size(n) as u32, 3, 4, reply);
+    let file = settings.file(role);
+    let option = option_of(file);
+    if role.is_data() {
+        lay_head(0x00, option, file.rights, reply);
+        lay_figure(role.size() as u32, 3, 4, reply);
         return 7;
     }
-    if n == table::VALUE_03 {
-        return show_value(settings, option, rights, allowance, reply);
+    if role.is_value() {
+        return show_value(settings, option, file.rights, allowance, reply);
     }
-    lay_head(0x04, option, rights, reply);
+    lay_head(0x04, option, file.rights, reply);
     lay_figure(Log::ENTRY as u32, 3, 4, reply);
     lay_figure(Log::MOST as u32, 3, 7, reply);
     lay_figure(entries as u32, 3, 10, reply);

@@ -8,15 +8,15 @@ use native.Mathlib.Nat.{zero-add}
 use native.Mathlib.Omega.{arith}
 use Rattle.tables.specs.Choice.{pick, picked, passed, and-both, and-left, and-right}
 use Rattle.wire.specs.Bytes.{part, laidIn, Shows}
-use Rattle.wire.specs.Laws.{length-part, length-laid, laid-room, shows-as}
+use Rattle.wire.specs.Laws.{length-part, length-laid, laid-room, shows-as, shows-there}
 use Rattle.text.specs.Hex.{inDigits}
 use Rattle.text.specs.Shown.{digitsIn, Adds}
 use Rattle.text.specs.Laws.{length-digits, digits-shown}
 use Rattle.text.specs.Adds.{adds-then, adds-behind}
 use Rattle.till.specs.Till.{firstFrame, secondPart, secondFrame, sealed, sealable, sealedIn}
-use Rattle.till.specs.Laws.{length-data, length-sealed, sealable-yes, in-room}
+use Rattle.frames.specs.Laws.{length-data}
+use Rattle.till.specs.Laws.{length-sealed, sealable-yes, in-room}
 use Rattle.lines.specs.Lines.{Said}
-use Rattle.lines.specs.Laws.{text-there}
 use Rattle.held.specs.declared.Draft.{Draft}
 use Rattle.drafts.specs.declared.Step.{Step}
 use Rattle.held.specs.Held.{counted}
@@ -106,7 +106,7 @@ module _ (d : Draft) (f : List ℕ) where
           by false e = absurd (p (none e))
 
       there : part after 0 n ≡ bytes
-      there = text-there _ w after n s ∙ whole yes .0
+      there = shows-there _ w after n s ∙ whole yes .0
 
       pub maced-size : n ≤ 261
       maced-size = omega (arith, s .1 ∙ ap length (whole yes .0), whole yes .1)

@@ -16,22 +16,22 @@ use Rattle.logbook.specs.View as log
 use Rattle.access.specs.Rights.{rightsSound, sealed, granting, accessOf}
 use Rattle.frames.specs.Frame.{wrongSize, wrongClass, wrongParameters, wrongFrame}
 use Rattle.settings.specs.declared.Settings.{Settings}
-use Rattle.columns.specs.Table.{onFile, namesFile, isFile, suits}
-use Rattle.settings.specs.Settings.{alike, rightsOf, accessTo, rightsBroken}
+use Rattle.columns.specs.Table.{onFile, namesFile, suits}
+use Rattle.settings.specs.Settings.{alike, roleOf, accessTo, rightsBroken, numberAbove, numberTwice}
 use Rattle.rows.specs.State.{logPending}
 use Rattle.keys.specs.Keys as keys
 use Rattle.chains.specs.Chain.{unchained, chainSound}
 use Rattle.channel.specs.declared.Inputs.{Inputs}
 use Rattle.channel.specs.Channel.{counted, bare}
-use Rattle.modes.specs.Modes.{macedUnder, plainOf}
+use Rattle.modes.specs.Modes.{roleIn, macedUnder, plainOf}
 use Rattle.rows.specs.Rows.{unknownCommand, interrupts, sentOf, lengthCases, lacksMac, unknownFile, otherKindOrNever, notGranted, partFails, forged, usedUp, switchedOff, parameterCases, ranged, roomOf, amountCases, outside, longRead, nothingPending, rowsFor, statusFor}
 use Rattle.effects.specs.Effects.{purseAfter, journalAfter, storedAfter, filesAfter}
 use Rattle.replies.specs.Replies.{shownOf}
 use Rattle.card.specs.declared.Card.{Card}
 use Rattle.card.specs.View.{view, put}
-use Rattle.standing.specs.Rules.{unequal, brokenBy, orderRefusal}
+use Rattle.standing.specs.Rules.{unequal, brokenBy, firstFault, orderRefusal}
 use Rattle.card.specs.Outcome.{bench}
-use Rattle.card.specs.Events.{channelAfter, changed, shown, macBehind, acceptedStatus, acceptedPlain, ended, refused, accepted, played, laidInto, benchRefusal, commanded, issued, blank, personalised}
+use Rattle.card.specs.Events.{channelAfter, changed, shown, macBehind, acceptedStatus, acceptedPlain, ended, refused, accepted, played, laidInto, benchRefusal, commanded, issued, blank, personalised, replyRoom}
 
 -- frames sent one after the other to a new card, the replies, and the log's entries at the end
 pub record Edge : Type 0 where
@@ -129,7 +129,7 @@ inputs = record { random = replicate 16 0; ti = replicate 4 0 }
 played-on : Card → List (List ℕ) → Seen
 played-on c [] = record { replies = []; entries = view c .core .journal .entries }
 played-on c (f ∷ fs) =
-    let o = commanded c f inputs 258 in
+    let o = commanded c f inputs replyRoom in
     let r = played-on (o .card) fs in
     record { replies = o .out ∷ r .replies; entries = r .entries }
 
@@ -141,5 +141,5 @@ pub expected : Edge → Seen
 expected e = record { replies = e .replies; entries = e .entries }
 
 pub edges-answered : map answered edges ≡ map expected edges
-unfolding answered expected edges inputs played-on settings alike keys.zeros counted bare unchained chainSound macedUnder plainOf pick laid laidIn outsideOf le3 le4 word files.sizeOf files.bytesOf files.zeros files.endOf files.shown files.written crossed within purse.resting purse.credited purse.debited purse.rebooked purse.settled purse.dropped unequal journal.blank journal.joined journal.shown journal.freshOr journal.written journal.cleared journal.pushed journal.resting journal.settled journal.stored journal.dropped ring.ringed ring.laidRound log.view journal.some log.put log.empty rightsSound sealed granting accessOf wrongSize wrongClass wrongParameters wrongFrame onFile namesFile isFile suits rightsOf accessTo logPending rightsBroken unknownCommand interrupts sentOf lengthCases lacksMac unknownFile otherKindOrNever notGranted partFails forged usedUp switchedOff parameterCases ranged roomOf amountCases outside longRead nothingPending rowsFor statusFor purseAfter journalAfter storedAfter filesAfter channelAfter changed shown macBehind acceptedStatus acceptedPlain shownOf view put brokenBy bench ended refused accepted played laidInto benchRefusal commanded issued blank orderRefusal personalised
+unfolding answered expected edges inputs played-on settings alike keys.zeros counted bare unchained chainSound roleIn macedUnder plainOf pick laid laidIn outsideOf le3 le4 word files.zeros files.endOf files.shown crossed within purse.resting purse.credited purse.debited purse.rebooked purse.settled purse.dropped unequal journal.blank journal.joined journal.shown journal.freshOr journal.written journal.cleared journal.pushed journal.resting journal.settled journal.stored journal.dropped ring.ringed ring.laidRound log.view journal.some log.put log.empty rightsSound sealed granting accessOf wrongSize wrongClass wrongParameters wrongFrame onFile namesFile suits roleOf accessTo logPending rightsBroken numberAbove numberTwice unknownCommand interrupts sentOf lengthCases lacksMac unknownFile otherKindOrNever notGranted partFails forged usedUp switchedOff parameterCases ranged roomOf amountCases outside longRead nothingPending rowsFor statusFor purseAfter journalAfter storedAfter filesAfter channelAfter changed shown macBehind acceptedStatus acceptedPlain shownOf view put brokenBy bench ended refused accepted played laidInto benchRefusal commanded issued blank firstFault orderRefusal personalised
 edges-answered = refl

@@ -3,6 +3,7 @@ use Prim.Native.Nat.{ℕ}
 use mathlib.Core.List.{List}
 use lib.Dec.{eqb}
 use Rattle.tables.specs.Choice.{pick}
+use Rattle.roles.specs.declared.Role.{Role}
 use Rattle.datafiles.specs.declared.Files.{Files}
 use Rattle.datafiles.specs.Files as files
 use Rattle.purse.specs.declared.Purse.{Purse}
@@ -10,7 +11,7 @@ use Rattle.purse.specs.Purse as purse
 use Rattle.logbook.specs.Journal.{Journal}
 use Rattle.logbook.specs.Journal as journal
 use Rattle.columns.specs.Table.{writeData, credit, debit, limitedCredit, writeRecord, clearRecordFile, commitTransaction, abortTransaction}
-use Rattle.frames.specs.Frame.{fileOf, offsetOf, bytesIn, amountOf}
+use Rattle.frames.specs.Frame.{offsetOf, bytesIn, amountOf}
 
 -- the value file
 unfoldable pub purseAfter : ℕ → List ℕ → Purse → Purse
@@ -36,5 +37,5 @@ unfoldable pub storedAfter : ℕ → Journal → ℕ
 storedAfter i j = pick (eqb i commitTransaction) (journal.stored j) 0
 
 -- the data files: writes act at once and make nothing pending
-unfoldable pub filesAfter : ℕ → List ℕ → Files → Files
-filesAfter i d f = pick (eqb i writeData) (files.written f (fileOf d) (offsetOf d) (bytesIn d)) f
+unfoldable pub filesAfter : ℕ → Role → List ℕ → Files → Files
+filesAfter i r d f = pick (eqb i writeData) (files.written f r (offsetOf d) (bytesIn d)) f

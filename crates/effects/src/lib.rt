@@ -5,6 +5,7 @@ use limits::Limits;
 use logbook::Log;
 use logbook::Stored;
 use purse::Purse;
+use roles::Role;
 ghost use mathlib.Core.Bool.{false};
 ghost use mathlib.Core.Path.{_≡_};
 ghost use lib.Dec.{eqb};
@@ -65,12 +66,12 @@ pub fn next_log(log: Log, ins: u8, d: &[u8]) -> Stored
 }
 
 // The data files after the command.
-pub fn next_files(files: Files, ins: u8, d: &[u8]) -> Files
-    ensures { λ r. ⌜ r ≡ filesAfter ins (now (d .entry)) files ⌝ }
+pub fn next_files(files: Files, ins: u8, role: Role, d: &[u8]) -> Files
+    ensures { λ r. ⌜ r ≡ filesAfter ins role (now (d .entry)) files ⌝ }
 {
     if ins == table::WRITE_DATA {
         let at = wire::le3_at(d, 1);
-        return files.write(wire::byte_at(d, 0), at as usize, frames::bytes_in(d));
+        return files.write(role, at as usize, frames::bytes_in(d));
     }
     files
 }

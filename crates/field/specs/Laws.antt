@@ -5,11 +5,9 @@ use Prim.Native.Nat.{ℕ, zero, suc, _+_, _<_}
 use native.Mathlib.Nat.{suc-inj}
 use native.Mathlib.Numerals.{add-one}
 use native.Mathlib.Omega.{arith}
-use mir.Syntax.{w8}
-use mir.Val.{Fits}
 use lib.Bits.{xor-comm}
 use lib.Dec.{lit<}
-use lib.ListN.{length, getD, take, drop, set}
+use lib.ListN.{length, getD, take, drop, set, length-append}
 use lib.Seq.{take-suc-set}
 use Rattle.field.specs.Field.{_⊕_}
 use Rattle.field.specs.Bytes.{Bytes, Sized, Block, tabled, sum, _⊞_, zeros}
@@ -28,6 +26,13 @@ byte-at (a ∷ l) b (suc i) = byte-at l (b .1) i
 pub append-bytes : (u v : List ℕ) → Bytes u → Bytes v → Bytes (u ++ v)
 append-bytes [] v p q = q
 append-bytes (a ∷ u) v p q = (p .0, append-bytes u v (p .1) q)
+
+pub append-sized : (m n : ℕ) (u v : List ℕ) → Sized m u → Sized n v → Sized (m + n) (u ++ v)
+append-sized m n u v p q =
+    record {
+      long = length-append u v ∙ (λ i. p .long i + q .long i);
+      bytes = append-bytes u v (p .bytes) (q .bytes);
+    }
 
 pub take-bytes : (n : ℕ) (l : List ℕ) → Bytes l → Bytes (take n l)
 take-bytes zero l b = tt
@@ -101,11 +106,3 @@ length-sum a b = refl
 
 pub zeros-block : Block zeros
 zeros-block = tabled-sized 16 (λ i. 0) (λ i. lit< tt)
-
--- an array of n bytes
-pub sized-of : (n : ℕ) (l : List ℕ) → length l ≡ n → ((i : ℕ) → Fits w8 (getD l i 0)) → Sized n l
-sized-of n l e h = record { long = e; bytes = go l h }
-  where
-    go : (l : List ℕ) → ((i : ℕ) → Fits w8 (getD l i 0)) → Bytes l
-    go [] h = tt
-    go (a ∷ l) h = (h 0 .fits, go l (λ i. h (suc i)))

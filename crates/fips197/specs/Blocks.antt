@@ -1,15 +1,15 @@
--- Each step and each cipher gives a block of bytes.
+-- Each step of Cipher, and Cipher itself, gives a block of bytes.
 use mathlib.Core.Path.{_≡_}
 use mathlib.Core.List.{List, [], _∷_}
-use Prim.Native.Nat.{ℕ, zero, suc, _+_, _-_, _*_, _/_, _%_, _<_}
+use Prim.Native.Nat.{ℕ, zero, suc, _+_, _*_, _/_, _%_, _<_}
 use lib.ListN.{length, getD}
 use Rattle.field.specs.Bytes.{Bytes, Block}
 use Rattle.field.specs.Laws.{byte-at, tabled-sized, elements, sum-block}
-use Rattle.fips197.specs.Sbox.{sbox, invSbox}
-use Rattle.fips197.specs.Steps.{at, state, bytewise, subBytes, shiftRows, columnwise, mixed, mixColumns, addRoundKey, invShiftRows, invSubBytes, unmixed, invMixColumns}
-use Rattle.fips197.specs.Cipher.{round, rounds, cipher, invRound, invRounds, invCipher}
-use Rattle.fips197.specs.Substitution.{sbox-lt, invSbox-lt}
-use Rattle.fips197.specs.Columns.{mixed-lt, unmixed-lt}
+use Rattle.fips197.specs.Sbox.{sbox}
+use Rattle.fips197.specs.Steps.{at, state, bytewise, subBytes, shiftRows, columnwise, mixed, mixColumns, addRoundKey}
+use Rattle.fips197.specs.Cipher.{round, rounds, cipher}
+use Rattle.fips197.specs.Substitution.{sbox-lt}
+use Rattle.fips197.specs.Columns.{mixed-lt}
 
 -- a block is that of its bytes
 pub whole : (s : List ℕ) → length s ≡ 16 → state (at s) ≡ s
@@ -46,17 +46,6 @@ module _ (s : List ℕ) (b : Bytes s) where
   unfolding mixColumns
   mix-block = columnwise-block mixed mixed-lt s b
 
-  unshift-block : Block (invShiftRows s)
-  unfolding invShiftRows
-  unshift-block = state-block (λ r c. at s r (c + 4 - r)) (λ r c. at-lt s b r (c + 4 - r))
-
-  unsub-block : Block (invSubBytes s)
-  unsub-block = bytewise-block invSbox invSbox-lt s b
-
-  unmix-block : Block (invMixColumns s)
-  unfolding invMixColumns
-  unmix-block = columnwise-block unmixed unmixed-lt s b
-
 -- each round key is a block
 abbrev pub Keys : List (List ℕ) → Type 0
 Keys [] = Unit {0}
@@ -90,20 +79,3 @@ module _ (w : List (List ℕ)) (q : Keys w) where
       let s = rounds w (addRoundKey b (getD w 0 [])) 9 in
       let d = rounds-block (addRoundKey b (getD w 0 [])) (first-block b h) 9 in
       added 10 (shiftRows (subBytes s)) (shift-block (subBytes s) (sub-block s (d .bytes) .bytes) .bytes)
-
-  -- InvSubBytes of InvShiftRows, and a round key
-  unturned : (n : ℕ) (s : List ℕ) → Bytes s → Block (addRoundKey (invSubBytes (invShiftRows s)) (getD w n []))
-  unturned n s b = added n (invSubBytes (invShiftRows s)) (unsub-block (invShiftRows s) (unshift-block s b .bytes) .bytes)
-
-  invRounds-block : (n : ℕ) (s : List ℕ) → Block s → Block (invRounds w n s)
-  unfolding invRound
-  invRounds-block zero s b = b
-  invRounds-block (suc n) s b =
-      invRounds-block n (invRound s (getD w (suc n) []))
-      (unmix-block (addRoundKey (invSubBytes (invShiftRows s)) (getD w (suc n) [])) (unturned (suc n) s (b .bytes) .bytes))
-
-  pub invCipher-block : (b : List ℕ) → Bytes b → Block (invCipher w b)
-  unfolding invCipher
-  invCipher-block b h =
-      let s = addRoundKey b (getD w 10 []) in
-      unturned 0 (invRounds w 9 s) (invRounds-block 9 s (added 10 b h) .bytes)

@@ -18,11 +18,6 @@ pub mixed-lt : (a b c d : ℕ) → a < 256 → b < 256 → c < 256 → d < 256 �
 unfolding mixed
 mixed-lt a b c d ha hb hc hd = four-lt (2 • a) (3 • b) c d (product-lt 2 a ha) (product-lt 3 b hb) hc hd
 
-pub unmixed-lt : (a b c d : ℕ) → a < 256 → b < 256 → c < 256 → d < 256 → unmixed a b c d < 256
-unfolding unmixed
-unmixed-lt a b c d ha hb hc hd =
-    four-lt (0x0e • a) (0x0b • b) (0x0d • c) (0x09 • d) (product-lt 0x0e a ha) (product-lt 0x0b b hb) (product-lt 0x0d c hc) (product-lt 0x09 d hd)
-
 four-alike : {a b c d a' b' c' d' : ℕ} → a ≡ a' → b ≡ b' → c ≡ c' → d ≡ d' → four a b c d ≡ four a' b' c' d'
 four-alike p q r s = ap₂ (λ x y. x ⊕ y) (ap₂ (λ x y. x ⊕ y) (ap₂ (λ x y. x ⊕ y) p q) r) s
 

@@ -10,7 +10,7 @@ use Rattle.fips197.specs.Keys.{keyExpansion}
 use Rattle.fips197.specs.Cipher.{round, rounds, cipher, invRound, invRounds, invCipher}
 use Rattle.fips197.specs.Substitution.{sbox-undone}
 use Rattle.fips197.specs.Columns.{column-undone}
-use Rattle.fips197.specs.Blocks.{whole, at-lt, sub-block, shift-block, mix-block, Keys, rounds-block, first-block, cipher-block, invCipher-block}
+use Rattle.fips197.specs.Blocks.{whole, at-lt, sub-block, shift-block, mix-block, Keys, rounds-block, first-block, cipher-block}
 use Rattle.fips197.specs.Schedule.{keyExpansion-keys}
 
 alike : {f g : ℕ → ℕ → ℕ} → ((r c : ℕ) → f r c ≡ g r c) → state f ≡ state g
@@ -75,12 +75,9 @@ module _ (k b : List ℕ) (hk : Block k) (hb : Block b) where
   pub decrypts : invCipher (keyExpansion k) (cipher (keyExpansion k) b) ≡ b
   decrypts = cipher-undone (keyExpansion k) (keyExpansion-keys k hk) b hb
 
-  -- what is encrypted and what is decrypted are blocks
+  -- what is encrypted is a block
   pub encrypted-block : Block (cipher (keyExpansion k) b)
   encrypted-block = cipher-block (keyExpansion k) (keyExpansion-keys k hk) b (hb .bytes)
-
-  pub decrypted-block : Block (invCipher (keyExpansion k) b)
-  decrypted-block = invCipher-block (keyExpansion k) (keyExpansion-keys k hk) b (hb .bytes)
 
 -- whatever is encrypted, a block comes out
 pub length-cipher : (w : List (List ℕ)) (b : List ℕ) → length (cipher w b) ≡ 16

@@ -1,4 +1,4 @@
--- The S-box and its inverse: bytes to bytes, and the one undoes the other. Each is one test of 256 bytes, with inverses looked up.
+-- The S-box gives bytes, and its inverse undoes it. Each is one test of 256 bytes, with inverses looked up.
 use mathlib.Core.Path.{_≡_, sym, ap, subst, _∙_}
 use Prim.Native.Nat.{ℕ, _<_}
 use lib.Dec.{ltb, ltb→lt}
@@ -28,8 +28,3 @@ sbox-undone a h =
 
 pub sbox-lt : (a : ℕ) → a < 256 → sbox a < 256
 sbox-lt a h = subst (λ (x : ℕ). x < 256) (sym (sbox-is a h)) (ltb→lt (looked a) 256 (below 256 (λ a. ltb (looked a) 256) tt a h))
-
-pub invSbox-lt : (a : ℕ) → a < 256 → invSbox a < 256
-invSbox-lt a h =
-    let u = ltb→lt (unaffine a) 256 (below 256 (λ a. ltb (unaffine a) 256) tt a h) in
-    subst (λ (x : ℕ). x < 256) (sym (invSbox-is a u)) (ltb→lt (invLooked a) 256 (below 256 (λ a. ltb (invLooked a) 256) tt a h))

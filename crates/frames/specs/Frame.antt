@@ -54,6 +54,7 @@ optionOf d = getD d 0 0
 abbrev pub keyIn : List ℕ → ℕ
 keyIn d = getD d 0 0
 
+-- LenCap, the number of bytes of PCDcap2
 abbrev pub capsIn : List ℕ → ℕ
 capsIn d = getD d 1 0
 

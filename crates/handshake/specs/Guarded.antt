@@ -9,7 +9,7 @@ use Rattle.wire.specs.Laws.{laid-room, laid-all}
 use Rattle.derivation.specs.Derivation.{macKey}
 use Rattle.handshake.specs.Handshake.{broughtA, secondReply}
 
--- a data field of another length counts as cut or filled with zero bytes, or as zero bytes where it is longer
+-- a data field of another length counts as filled with zero bytes, or as zero bytes where it is longer
 unfoldable pub pairOf : List ℕ → List ℕ
 pairOf d = laidIn (replicate 32 0) 0 d
 

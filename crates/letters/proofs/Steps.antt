@@ -18,7 +18,7 @@ use Rattle.notices.specs.Notices.{noticeText}
 use Rattle.card.specs.declared.Reply.{Reply}
 use Rattle.card.specs.Outcome.{Outcome, replyOf}
 use Rattle.desk.specs.declared.Desk.{Desk}
-use Rattle.letters.specs.Letters.{saidOf, afterEvent, unread, replied, openedOn, sentOn, isOrder, letteredBy, lettered}
+use Rattle.letters.specs.Letters.{saidOf, afterEvent, unread, replied, openedOn, sentOn, longest, isOrder, letteredBy, lettered}
 use Rattle.letters.specs.Laws.{Plays, reply-bytes, Tells}
 
 module _ (k : Desk) (letter : ℕ) where
@@ -34,16 +34,17 @@ module _ (k : Desk) (letter : ℕ) where
   unfolding lettered
   lettered-by rest b n e l = said-by (letteredBy k letter (length rest)) (unspelt (length rest)) rest b n e l
 
-  -- but for C and D, no letter has more than 208 characters behind it
-  pub lettered-long : (rest : List ℕ) → (eqb letter 0x43 || eqb letter 0x44) ≡ false → 208 < length rest → unread k ≡ lettered k letter rest
+  -- but for C and D, no letter has more characters behind it than the longest order
+  pub lettered-long : (rest : List ℕ) → (eqb letter 0x43 || eqb letter 0x44) ≡ false → longest < length rest → unread k ≡ lettered k letter rest
   unfolding lettered letteredBy
   lettered-long rest o h =
       let g = or-no (eqb letter 0x43) (eqb letter 0x44) o in
-      let no : (m : ℕ) → m ≤ 208 → eqb (length rest) m ≡ false = λ m l. ne-eqb (length rest) m (λ e. omega arith) in
+      let no : (m : ℕ) → m ≤ longest → eqb (length rest) m ≡ false = λ m l. ne-eqb (length rest) m (λ e. omega arith) in
       let none : (c : ℕ) → (eqb letter c && false) ≡ false = λ c. and-right (eqb letter c) false refl in
       rw (
         no 46 (omega arith),
         no 208 (omega arith),
+        no longest (omega arith),
         no 0 (omega arith),
         no 2 (omega arith),
         no 4 (omega arith),

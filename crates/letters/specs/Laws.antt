@@ -11,8 +11,7 @@ use native.Mathlib.Nat.{sub-zero}
 use native.Mathlib.Omega.{arith}
 use Rattle.tables.specs.Choice.{pick, pick-both, pick-cases}
 use Rattle.wire.specs.Bytes.{part, word}
-use Rattle.wire.specs.Laws.{length-part}
-use Rattle.text.specs.Adds.{front-laid, front-fits}
+use Rattle.wire.specs.Laws.{length-part, front-laid, front-fits}
 use Rattle.purse.specs.declared.Purse.{Purse}
 use Rattle.logbook.specs.declared.Log.{Log}
 use Rattle.chains.specs.declared.Chain.{Chain}

@@ -85,9 +85,13 @@ storedTold k = record { next = k; out = decimal (k .stored) }
 
 -- ---- a line
 
--- the digits of an order: up to the switches, or with keys and modes behind them
+-- the digits of the longest order
+abbrev pub longest : ℕ
+longest = 218
+
+-- the digits of an order: up to the switches, up to the modes, or with the numbers of the files behind them
 abbrev pub isOrder : ℕ → Bool
-isOrder n = eqb n 46 || eqb n 208
+isOrder n = eqb n 46 || eqb n 208 || eqb n longest
 
 -- a letter with n characters behind it, which are digits or not, and the bytes that they spell
 unfoldable pub letteredBy : Desk → ℕ → ℕ → Bool → List ℕ → Said Desk

@@ -17,6 +17,9 @@ ghost use Rattle.card.specs.Events.{personalised, sessionChanged};
 ghost use Rattle.orders.specs.Order.{orderIn};
 ghost use Rattle.letters.specs.Letters.{saidOf, counted, lent, inputsIn, handed, letteredBy, lettered};
 
+// The digits of the longest order.
+const LONGEST: usize = 218;
+
 // P: personalise.
 fn personalise(mut desk: Desk, b: &[u8]) -> Told
     ensures { λ r. ⌜ saidOf r ≡ counted desk (personalised (orderIn (now (b .entry)) .settings) (orderIn (now (b .entry)) .keys) (orderIn (now (b .entry)) .value)) ⌝ }
@@ -97,7 +100,7 @@ fn say_spelt(desk: Desk, letter: u8, n: usize, digits: bool, b: &[u8]) -> Told
     requires { ⌜ ((eqb letter 0x43 || eqb letter 0x44) ≡ false) × (digits ≡ true → n ≡ 2 * length (now b)) ⌝ }
     ensures { λ r. ⌜ saidOf r ≡ letteredBy desk letter n digits (now (b .entry)) ⌝ }
 {
-    if (letter == b'P') & ((n == 46) | (n == 208)) & digits {
+    if (letter == b'P') & ((n == 46) | (n == 208) | (n == LONGEST)) & digits {
         return personalise(desk, b);
     }
     if (letter == b'S') & (n == 0) {
@@ -131,7 +134,7 @@ fn say_spelt(desk: Desk, letter: u8, n: usize, digits: bool, b: &[u8]) -> Told
     }
 }
 
-// A letter and the characters behind it: for an order with keys 208, and but for a chain no line has more.
+// A letter and the characters behind it: but for a chain, no line has more than the longest order.
 pub(crate) fn say_lettered(desk: Desk, letter: u8, rest: &[u8]) -> Told
     requires { ⌜ length (now rest) ≤ 1024 ⌝ }
     ensures { λ r. ⌜ saidOf r ≡ lettered desk letter (now (rest .entry)) ⌝ }
@@ -139,13 +142,13 @@ pub(crate) fn say_lettered(desk: Desk, letter: u8, rest: &[u8]) -> Told
     if (letter == b'C') | (letter == b'D') {
         return chain::say_chained(desk, letter, rest);
     }
-    if 208 < rest.len() {
+    if LONGEST < rest.len() {
         return Told {
             desk,
             notice: Notice::Unread,
         };
     }
-    let mut bytes = [0u8; 104];
+    let mut bytes = [0u8; LONGEST / 2];
     let n = text::spell(rest, &mut bytes);
     let digits = 2 * n == rest.len();
     say_spelt(desk, letter, rest.len(), digits, &bytes[0..n])

@@ -5,17 +5,17 @@ use mathlib.Core.List.{List, [], _∷_, _++_, append-nil, append-assoc}
 use mathlib.Core.Path.{_≡_, refl, sym, ap, _∙_}
 use borrow.Author.Tests.{eq-eqb, ne-eqb, eqb-true, eqb-false, not-true, leb-true, leb-false, ltb-true, ltb-false, lt-ltb, le-ltb}
 use lib.Dec.{eqb, leb, ltb}
-use lib.ListN.{length, take, drop, getD, replicate, length-append, length-drop, length-replicate, drop-of-length-le}
+use lib.ListN.{length, take, drop, getD, length-append, length-drop, drop-of-length-le}
 use lib.Seq.{drop-cons, drop-drop, take-all}
-use native.Mathlib.Nat.{add-zero, sub-zero}
+use native.Mathlib.Nat.{add-zero}
 use native.Mathlib.Omega.{arith}
 use Rattle.tables.specs.Choice.{pick, picked, passed, pick-cases, and-yes}
 use Rattle.wire.specs.Bytes.{part, laid, laidIn, Shows}
-use Rattle.wire.specs.Laws.{length-part, length-laid, laid-room, laid-all}
+use Rattle.wire.specs.Laws.{length-laid, shows-there}
 use Rattle.text.specs.Hex.{isHex, spelt, leading}
 use Rattle.text.specs.Laws.{room-yes, room-no, leading-most, leading-all, hex-test}
 use Rattle.text.specs.Shown.{inRoom, Adds}
-use Rattle.text.specs.Adds.{adds-none, adds-then, adds-room, front-laid, front-fits}
+use Rattle.text.specs.Adds.{adds-none, adds-then, adds-room}
 use Rattle.lines.specs.Lines.{lineLength, linesAfter, Said, Gone, stopped, ahead, went, Goes}
 
 -- ---- the first line
@@ -162,22 +162,6 @@ module _ (y b : List ℕ) (n : ℕ) where
             (omega (arith, size), rw (room-yes (length b - n) (y ++ 0x0A ∷ []) h) at a)
         by false f = let g = room-no (length b - n) (y ++ 0x0A ∷ []) (leb-false _ _ f) in absurd (q (a .1 ∙ (ap (λ (l : List ℕ). n + length l) g ∙ add-zero n)))
 
--- ---- what was laid into a buffer, read back
-
-module _ (x b after : List ℕ) (n : ℕ) (s : Shows x b after n) where
-  pub text-fits : length after ≡ length b → n ≤ length b
-  text-fits l = rw (s .1) (front-fits b x (ap length (sym (s .0)) ∙ l))
-
-  pub text-there : part after 0 n ≡ x
-  text-there = rw (sub-zero n, s .0, s .1) (front-laid b x)
-
--- the bytes from place at up to e, laid over zeros of their number
-pub part-laid : (b : List ℕ) (at e : ℕ) {x : List ℕ} → e ≤ length b → x ≡ laidIn (replicate (e - at) 0) 0 (part b at e) → x ≡ part b at e
-part-laid b at e h q =
-    let z = length-replicate {A = ℕ} (e - at) 0 in
-    let l = length-part b at e h in
-    q ∙ (laid-room (replicate (e - at) 0) 0 (part b at e) (omega arith) ∙ laid-all (replicate (e - at) 0) (part b at e) (omega arith))
-
 -- ---- the bytes of a line's leading digits
 
 pub spelt-there : (s bytes after : List ℕ) (n : ℕ) → length s ≤ 2 * length bytes → Shows (take (length bytes) (leading s)) bytes after n
@@ -187,7 +171,7 @@ spelt-there s bytes after n k w =
     let e : take (length bytes) (leading s) ≡ leading s = take-all (length bytes) (leading s) (omega arith) in
     let q : n ≡ length (leading s) = w .1 ∙ ap length e in
     let z : length after ≡ length bytes = ap length (w .0 ∙ ap (laid bytes 0) e) ∙ length-laid bytes 0 (leading s) (omega arith) in
-    (text-there _ bytes after n w ∙ e, q, omega arith)
+    (shows-there _ bytes after n w ∙ e, q, omega arith)
 
 -- what is said of a line by the n bytes b of its leading digits, where nothing looks at them unless all of it is digits
 pub said-by : {A : Type 0} (F : Bool → List ℕ → A) → ((x y : List ℕ) → F false x ≡ F false y) → (s b : List ℕ) (n : ℕ) → b ≡ leading s → n ≡ length (leading s)

@@ -1,14 +1,12 @@
 -- What fits: a log's journal, what each step makes of one that fits, and its lengths.
-use Prim.Native.Nat.{ℕ, _+_, _-_, _≤_}
+use Prim.Native.Nat.{ℕ, _-_, _≤_}
 use mathlib.Core.List.{List, [], _∷_, reverse}
 use mathlib.Core.Path.{_≡_, refl, _∙_}
-use borrow.Author.Tests.{leb-true}
-use lib.Dec.{eqb, leb}
+use lib.Dec.{eqb}
 use lib.ListN.{length, take, drop, length-take, length-drop, length-reverse}
 use native.Mathlib.Omega.{arith}
-use Rattle.tables.specs.Choice.{pick, pick-both, pick-cases}
-use Rattle.wire.specs.Bytes.{laid, laidIn}
-use Rattle.wire.specs.Laws.{length-laid}
+use Rattle.tables.specs.Choice.{pick, pick-both}
+use Rattle.wire.specs.Laws.{length-laidIn}
 use Rattle.logbook.specs.declared.Log.{Log}
 use Rattle.logbook.specs.Journal.{Journal, blank, joined, shown, freshOr, written, cleared, pushed, resting, settled, dropped}
 use Rattle.logbook.specs.View.{view}
@@ -25,10 +23,6 @@ fit-view l few s e =
       fresh-sized = pick-both (λ (fs : List (List ℕ)). Sixteens fs) (l .adds) (l .entry ∷ []) [] (e, tt) tt;
       fresh-one = pick-both (λ (fs : List (List ℕ)). length fs ≤ 1) (l .adds) (l .entry ∷ []) [] (omega arith) (omega arith);
     }
-
-length-laidIn : (b : List ℕ) (at : ℕ) (x : List ℕ) → length (laidIn b at x) ≡ length b
-unfolding laidIn
-length-laidIn b at x = pick-cases (λ (y : List ℕ). length y ≡ length b) (leb (at + length x) (length b)) (laid b at x) b (λ t. length-laid b at x (leb-true (at + length x) (length b) t)) (λ t. refl)
 
 length-fresh : (fs : List (List ℕ)) → Sixteens fs → length (freshOr blank fs) ≡ 16
 unfolding freshOr blank

@@ -1,5 +1,5 @@
 -- The cyclic log as the rules speak of it: entries of 16 bytes, the newest first, and what is pending on them.
-use Prim.Native.Nat.{ℕ, _-_}
+use Prim.Native.Nat.{ℕ, _-_, _*_}
 use mathlib.Core.List.{List, [], _∷_, _++_, reverse}
 use mathlib.Core.Bool.{Bool, true, false}
 use lib.Dec.{eqb}
@@ -13,6 +13,10 @@ entrySize = 16
 
 abbrev pub mostEntries : ℕ
 mostEntries = 4
+
+-- the bytes of all slots
+abbrev pub slotBytes : ℕ
+slotBytes = entrySize * mostEntries
 
 pub record Journal : Type 0 where
   -- committed entries, entry 0 the newest

@@ -42,6 +42,10 @@ pub put-view : (l : Log) → put l 0 (view l) ≡ l
 unfolding view
 put-view l = put-same l (view l) refl ∙ (λ i. record { slots = l .slots; place = l .place; count = l .count; entry = fresh-entry (l .adds) (l .entry) i; adds = fresh-some (l .adds) (l .entry) i; clears = l .clears })
 
+pub entries-view : (l : Log) → length (view l .entries) ≡ l .count
+unfolding view
+entries-view l = length-ringed (l .count) (l .place) (l .slots)
+
 pub fresh-back : (e : List ℕ) (fs : List (List ℕ)) → length fs ≤ 1 → pick (some fs) (freshOr e fs ∷ []) [] ≡ fs
 unfolding pick some freshOr
 fresh-back e [] h = refl

@@ -6,7 +6,7 @@ use lib.ListN.{length, replicate}
 use Rattle.tables.specs.Choice.{pick}
 use Rattle.logbook.specs.declared.Log.{Log}
 use Rattle.logbook.specs.declared.Stored.{Stored}
-use Rattle.logbook.specs.Journal.{Journal, blank, freshOr, some, stored, settled}
+use Rattle.logbook.specs.Journal.{slotBytes, Journal, blank, freshOr, some, stored, settled}
 use Rattle.logbook.specs.Ring.{newer, ringed, laidRound}
 
 -- the place shows in no journal: only the entries do, read from it on
@@ -40,4 +40,4 @@ committed l = putStored l (stored (view l)) (settled (view l))
 
 -- no entry, nothing pending, and every byte and figure 0; so the first entry goes into slot 1
 unfoldable pub empty : Log
-empty = record { slots = replicate 64 0; place = 0; count = 0; entry = blank; adds = false; clears = false }
+empty = record { slots = replicate slotBytes 0; place = 0; count = 0; entry = blank; adds = false; clears = false }

@@ -1,15 +1,17 @@
-// Which commands carry a MAC, and the data field without it.
+// Which file a data field names, which commands carry a MAC, and the data field without it.
 use access::Access;
 use channel::Stage;
 use columns::Row;
 use columns::table;
+use settings::Named;
 use settings::Settings;
 ghost use mathlib.Core.Path.{_≡_};
 ghost use Prim.Native.Nat.{_-_};
 ghost use Rattle.tables.specs.Choice.{pick};
 ghost use Rattle.access.specs.Rights.{isFreeOnly};
 ghost use Rattle.channel.specs.Channel.{isReal};
-ghost use Rattle.modes.specs.Modes.{macSize, macedUnder, plainOf, macOf};
+ghost use Rattle.settings.specs.Settings.{namedBy};
+ghost use Rattle.modes.specs.Modes.{roleIn, macSize, macedUnder, plainOf, macOf};
 
 pub const MAC_SIZE: usize = 8;
 
@@ -35,17 +37,26 @@ fn is_free_only(access: Access) -> bool
     }
 }
 
-// Whether the command with the data field x, to which access was answered, carries a MAC at this stage.
-pub fn is_maced(access: Access, settings: Settings, stage: Stage, ins: u8, x: &[u8]) -> bool
-    ensures { λ r. ⌜ r ≡ macedUnder access settings stage ins (now (x .entry)) ⌝ }
+// What the data field x names; an empty one names no file.
+pub fn named(settings: Settings, x: &[u8]) -> Named
+    ensures { λ r. ⌜ r ≡ namedBy settings (roleIn settings (now (x .entry))) ⌝ }
+{
+    if x.len() == 0 {
+        return Named::nothing();
+    }
+    settings.named(wire::byte_at(x, 0))
+}
+
+// Whether the command carries a MAC at this stage: access to its file was answered, and maced says that the file is in MAC mode.
+pub fn is_maced(access: Access, maced: bool, stage: Stage, ins: u8) -> bool
+    ensures { λ r. ⌜ r ≡ macedUnder access maced stage ins ⌝ }
 {
     if !is_real(stage) {
         return false;
     }
     let row = Row::of_command(ins);
-    let named = settings.has_mac(wire::byte_at(x, 0));
     let free = is_free_only(access);
-    row.ends | (ins == table::GET_FILE_SETTINGS) | (row.file & (x.len() != 0) & named & !free)
+    row.ends | (ins == table::GET_FILE_SETTINGS) | (row.file & maced & !free)
 }
 
 // Where the MAC of a data field of n bytes begins; it is the whole of a shorter one.

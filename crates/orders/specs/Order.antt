@@ -1,16 +1,22 @@
--- A personalisation order in bytes: rights of 00h, 04h, 1Fh, 03h, 01h, lower limit, upper limit, starting value, switches,
--- keys 0 to 4, modes. Bytes past the end count as 0: an order that ends behind the switches has zero keys and plain modes (Laws).
+-- A personalisation order in bytes. The files come in the order of Role: their rights, then lower limit, upper limit, starting
+-- value, switches, keys 0 to 4, modes, and the files' numbers. Bytes past the end count as 0: an order that ends behind the
+-- switches has zero keys and plain modes. One that ends before the numbers has the default ones (Laws).
 use Prim.Native.Nat.{ℕ, _+_, _*_, _%_, _/_}
 use mathlib.Core.List.{List}
-use lib.Dec.{eqb}
+use lib.Dec.{eqb, leb}
 use lib.IntN.{ℤ}
-use lib.ListN.{getD, drop}
+use lib.ListN.{length, getD, drop}
 use mir.Syntax.{w32}
 use mir.Val.{toZ}
+use Rattle.tables.specs.Choice.{pick}
 use Rattle.wire.specs.Bytes.{le4}
 use Rattle.wire.specs.Listed.{filled}
+use Rattle.roles.specs.declared.Role.{Role}
+use Rattle.roles.specs.declared.Role.the-variants.{FirstLong, SecondLong, ShortData, ValueFile, LogFile}
+use Rattle.roles.specs.Roles.{defaultNumber}
 use Rattle.keys.specs.declared.Keys.{Keys}
 use Rattle.limits.specs.declared.Limits.{Limits}
+use Rattle.settings.specs.declared.FileSettings.{FileSettings}
 use Rattle.settings.specs.declared.Settings.{Settings}
 use Rattle.orders.specs.declared.Order.{Order}
 
@@ -31,20 +37,27 @@ sixteen b at = filled 16 (drop at b)
 unfoldable pub keysIn : List ℕ → Keys
 keysIn b = record { k0 = sixteen b 23; k1 = sixteen b 39; k2 = sixteen b 55; k3 = sixteen b 71; k4 = sixteen b 87 }
 
--- byte 22 has the switches in bits 0 and 1, byte 103 the modes in bits 0 to 4, set for MAC mode; other bits are not looked at
+-- the place of the numbers
+abbrev pub numbersAt : ℕ
+numbersAt = 104
+
+-- the number of file i, which has the role r; the default one where the order ends before the numbers
+unfoldable pub numberIn : List ℕ → ℕ → Role → ℕ
+numberIn b i r = pick (leb (length b) numbersAt) (defaultNumber r) (getD b (numbersAt + i) 0)
+
+-- file i; its mode is bit 0 of modes, set for MAC mode
+unfoldable pub fileIn : List ℕ → ℕ → Role → ℕ → FileSettings
+fileIn b i r modes = record { number = numberIn b i r; rights = le2 b (2 * i); maced = eqb (modes % 2) 1 }
+
+-- byte 22 has the switches in bits 0 and 1, byte 103 the modes in bits 0 to 4; other bits are not looked at
 unfoldable pub settingsIn : List ℕ → Settings
 settingsIn b =
     record {
-      r00 = le2 b 0;
-      r04 = le2 b 2;
-      r1f = le2 b 4;
-      r03 = le2 b 6;
-      r01 = le2 b 8;
-      m00 = eqb (getD b 103 0 % 2) 1;
-      m04 = eqb (getD b 103 0 / 2 % 2) 1;
-      m1f = eqb (getD b 103 0 / 4 % 2) 1;
-      m03 = eqb (getD b 103 0 / 8 % 2) 1;
-      m01 = eqb (getD b 103 0 / 16 % 2) 1;
+      first = fileIn b 0 FirstLong (getD b 103 0);
+      second = fileIn b 1 SecondLong (getD b 103 0 / 2);
+      short = fileIn b 2 ShortData (getD b 103 0 / 4);
+      value = fileIn b 3 ValueFile (getD b 103 0 / 8);
+      log = fileIn b 4 LogFile (getD b 103 0 / 16);
       limits = limitsIn b;
       limited = eqb (getD b 22 0 % 2) 1;
       free = eqb (getD b 22 0 / 2 % 2) 1;

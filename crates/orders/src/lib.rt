@@ -1,11 +1,14 @@
-// A personalisation order in bytes: rights of 00h, 04h, 1Fh, 03h, 01h, lower limit, upper limit, starting value, switches,
-// keys 0 to 4, modes. Bytes past the end count as 0, so no length is tested: an order that ends behind the switches has zero
-// keys and plain modes.
+// A personalisation order in bytes. The files come in the order of Role: their rights, then lower limit, upper limit, starting
+// value, switches, keys 0 to 4, modes, and the files' numbers. Bytes past the end count as 0: an order that ends behind the
+// switches has zero keys and plain modes. One that ends before the numbers has the default ones.
 use keys::Keys;
 use limits::Limits;
+use roles::Role;
+use settings::FileSettings;
 use settings::Settings;
 ghost use mathlib.Core.Path.{_≡_};
-ghost use Rattle.orders.specs.Order.{le2, signed, limitsIn, sixteen, keysIn, settingsIn, orderIn};
+ghost use Prim.Native.Nat.{_*_};
+ghost use Rattle.orders.specs.Order.{le2, signed, limitsIn, sixteen, keysIn, numberIn, fileIn, settingsIn, orderIn};
 
 // The settings, the starting value and the keys that an order names.
 pub struct Order {
@@ -14,15 +17,8 @@ pub struct Order {
     pub keys: Keys,
 }
 
-// Two bytes from at on, least significant first.
-fn le2_at(b: &[u8], at: u8) -> u16
-    ensures { λ r. ⌜ r ≡ le2 (now (b .entry)) at ⌝ }
-{
-    let i = at as usize;
-    let low = wire::byte_at(b, i);
-    let high = wire::byte_at(b, i + 1);
-    low as u16 + 256 * (high as u16)
-}
+// The place of the numbers; an order of at most so many bytes has none.
+const NUMBERS: usize = 104;
 
 // Four bytes from at on, least significant first, as a signed number.
 fn signed_at(b: &[u8], at: u8) -> i32
@@ -65,22 +61,50 @@ fn keys_in(b: &[u8]) -> Keys
     }
 }
 
+// The rights of file i: two bytes, least significant first.
+fn rights_in(b: &[u8], i: u8) -> u16
+    ensures { λ r. ⌜ r ≡ le2 (now (b .entry)) (2 * i) ⌝ }
+{
+    let at = 2 * (i as usize);
+    let low = wire::byte_at(b, at);
+    let high = wire::byte_at(b, at + 1);
+    low as u16 + 256 * (high as u16)
+}
+
+// The number of file i.
+fn number_in(b: &[u8], i: u8, role: Role) -> u8
+    ensures { λ r. ⌜ r ≡ numberIn (now (b .entry)) i role ⌝ }
+{
+    if b.len() <= NUMBERS {
+        return role.default_number();
+    }
+    wire::byte_at(b, NUMBERS + i as usize)
+}
+
+// File i, which has this role, and whose mode is bit 0 of modes.
+fn file_in(b: &[u8], i: u8, role: Role, modes: u8) -> FileSettings
+    ensures { λ r. ⌜ r ≡ fileIn (now (b .entry)) i role modes ⌝ }
+{
+    let number = number_in(b, i, role);
+    let rights = rights_in(b, i);
+    FileSettings {
+        number,
+        rights,
+        maced: modes % 2 == 1,
+    }
+}
+
 fn settings_in(b: &[u8]) -> Settings
     ensures { λ r. ⌜ r ≡ settingsIn (now (b .entry)) ⌝ }
 {
     let switches = wire::byte_at(b, 22);
     let modes = wire::byte_at(b, 103);
     Settings {
-        r00: le2_at(b, 0),
-        r04: le2_at(b, 2),
-        r1f: le2_at(b, 4),
-        r03: le2_at(b, 6),
-        r01: le2_at(b, 8),
-        m00: modes % 2 == 1,
-        m04: modes / 2 % 2 == 1,
-        m1f: modes / 4 % 2 == 1,
-        m03: modes / 8 % 2 == 1,
-        m01: modes / 16 % 2 == 1,
+        first: file_in(b, 0, Role::FirstLong, modes),
+        second: file_in(b, 1, Role::SecondLong, modes / 2),
+        short: file_in(b, 2, Role::ShortData, modes / 4),
+        value: file_in(b, 3, Role::ValueFile, modes / 8),
+        log: file_in(b, 4, Role::LogFile, modes / 16),
         limits: limits_in(b),
         limited: switches % 2 == 1,
         free: switches / 2 % 2 == 1,

@@ -7,9 +7,11 @@ use borrow.Author.Tests.{ltb-true, ltb-false, lt-ltb, le-ltb, ne-eqb, not-true}
 use lib.Dec.{eqb, ltb}
 use native.Mathlib.Omega.{arith}
 use Rattle.tables.specs.Choice.{and-left, and-right}
-use Rattle.datafiles.specs.Files.{sizeOf, endOf}
+use Rattle.roles.specs.declared.Role.{Role}
+use Rattle.roles.specs.Roles.{sizeOf}
+use Rattle.datafiles.specs.Files.{endOf}
 use Rattle.columns.specs.Table.{readData}
-use Rattle.frames.specs.Frame.{fileOf, offsetOf, lengthOf}
+use Rattle.frames.specs.Frame.{offsetOf, lengthOf}
 use Rattle.rows.specs.Rows.{longRead}
 
 -- more than 248 bytes, counted from the offset
@@ -20,16 +22,16 @@ past off end = by (ltb 248 (end - off)) refl
     by true e = let h = ltb-true 248 (end - off) e in lt-ltb (off + 248) end (omega arith)
     by false e = let h = ltb-false 248 (end - off) e in le-ltb (off + 248) end (omega arith)
 
-module _ (m : Bool) (i : ℕ) (d : List ℕ) where
-  pub long-other : (i ≡ readData → ⊥) → false ≡ longRead m i d
+module _ (m : Bool) (i : ℕ) (r : Role) (d : List ℕ) where
+  pub long-other : (i ≡ readData → ⊥) → false ≡ longRead m i r d
   unfolding longRead
   long-other n = sym (and-left (eqb i readData) _ (ne-eqb _ _ n))
 
-  pub long-plain : not m ≡ true → false ≡ longRead m i d
+  pub long-plain : not m ≡ true → false ≡ longRead m i r d
   unfolding longRead
   long-plain e = sym (and-right (eqb i readData) _ (and-left m _ (not-true m e)))
 
-  pub long-by : {off n len end : ℕ} → i ≡ readData → m ≡ true → off ≡ offsetOf d → n ≡ fileOf d → len ≡ lengthOf d → end ≡ endOf (sizeOf n) off len
-      → ltb (off + 248) end ≡ longRead m i d
+  pub long-by : {off len end : ℕ} → i ≡ readData → m ≡ true → off ≡ offsetOf d → len ≡ lengthOf d → end ≡ endOf (sizeOf r) off len
+      → ltb (off + 248) end ≡ longRead m i r d
   unfolding longRead
-  long-by {off} {end = end} ei em eo en el ee = past off end ∙ rw (ei, em, ee, el, en, eo) refl
+  long-by {off} {end = end} ei em eo el ee = past off end ∙ rw (ei, em, ee, el, eo) refl

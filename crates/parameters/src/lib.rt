@@ -5,6 +5,7 @@ use datafiles::Files;
 use limits::Limits;
 use logbook::Log;
 use purse::Purse;
+use roles::Role;
 ghost use mathlib.Core.Path.{_≡_};
 ghost use Rattle.rows.specs.Rows.{switchedOff, noAmount, noKey, badParameter, ranged, roomOf, outsideAmount, outside, longRead, nothingPending};
 
@@ -70,8 +71,8 @@ fn has_range(ins: u8) -> bool
 }
 
 // The room that they are held to.
-fn room_of(ins: u8, n: u8, entries: u8) -> usize
-    ensures { λ r. ⌜ r ≡ roomOf ins n entries ⌝ }
+fn room_of(ins: u8, role: Role, entries: u8) -> usize
+    ensures { λ r. ⌜ r ≡ roomOf ins role entries ⌝ }
 {
     if ins == table::READ_RECORDS {
         return entries as usize;
@@ -79,7 +80,7 @@ fn room_of(ins: u8, n: u8, entries: u8) -> usize
     if ins == table::WRITE_RECORD {
         return Log::ENTRY;
     }
-    Files::size(n)
+    role.size()
 }
 
 // Whether an amount passes a limit or the allowance.
@@ -98,11 +99,11 @@ fn amount_is_outside(limits: Limits, purse: Purse, ins: u8, amount: u32) -> bool
     false
 }
 
-pub fn is_outside(limits: Limits, purse: Purse, entries: u8, ins: u8, d: &[u8]) -> bool
-    ensures { λ r. ⌜ r ≡ outside limits purse entries ins (now (d .entry)) ⌝ }
+pub fn is_outside(limits: Limits, purse: Purse, entries: u8, ins: u8, role: Role, d: &[u8]) -> bool
+    ensures { λ r. ⌜ r ≡ outside limits purse entries ins role (now (d .entry)) ⌝ }
 {
     if has_range(ins) {
-        let room = room_of(ins, wire::byte_at(d, 0), entries);
+        let room = room_of(ins, role, entries);
         return wire::is_outside(room, wire::le3_at(d, 1), wire::le3_at(d, 4));
     }
     amount_is_outside(limits, purse, ins, wire::le4_at(d, 1))
@@ -111,8 +112,8 @@ pub fn is_outside(limits: Limits, purse: Purse, entries: u8, ins: u8, d: &[u8]) 
 // The most bytes that a ReadData in MAC mode shows.
 const MACED_READ: usize = 248;
 
-pub fn is_long_read(maced: bool, ins: u8, d: &[u8]) -> bool
-    ensures { λ r. ⌜ r ≡ longRead maced ins (now (d .entry)) ⌝ }
+pub fn is_long_read(maced: bool, ins: u8, role: Role, d: &[u8]) -> bool
+    ensures { λ r. ⌜ r ≡ longRead maced ins role (now (d .entry)) ⌝ }
 {
     if ins != table::READ_DATA {
         return false;
@@ -121,7 +122,7 @@ pub fn is_long_read(maced: bool, ins: u8, d: &[u8]) -> bool
         return false;
     }
     let from = wire::le3_at(d, 1);
-    let end = Files::end(wire::byte_at(d, 0), from, wire::le3_at(d, 4));
+    let end = Files::end(role, from, wire::le3_at(d, 4));
     from as usize + MACED_READ < end
 }
 

@@ -3,6 +3,7 @@ use columns::table;
 use datafiles::Files;
 use logbook::Log;
 use purse::Purse;
+use roles::Role;
 use settings::Settings;
 ghost use lib.ListN.{length};
 ghost use Rattle.wire.specs.Bytes.{Shows};
@@ -27,18 +28,14 @@ pub fn show(
     purse: Purse,
     log: Log,
     ins: u8,
+    role: Role,
     d: &[u8],
     reply: &mut [u8],
 ) -> usize
-    ensures { λ r. ⌜ Shows (shownIn (length (now (reply .entry))) settings files purse log ins (now (d .entry))) (now (reply .entry)) (now (reply .exit)) r ⌝ }
+    ensures { λ r. ⌜ Shows (shownIn (length (now (reply .entry))) settings files purse log ins role (now (d .entry))) (now (reply .entry)) (now (reply .exit)) r ⌝ }
 {
     if ins == table::READ_DATA {
-        return files.show(
-            wire::byte_at(d, 0),
-            wire::le3_at(d, 1),
-            wire::le3_at(d, 4),
-            reply,
-        );
+        return files.show(role, wire::le3_at(d, 1), wire::le3_at(d, 4), reply);
     }
     if ins == table::GET_VALUE {
         return show_value(purse.value, reply);
@@ -47,13 +44,7 @@ pub fn show(
         return records::show(log, wire::le3_at(d, 1), wire::le3_at(d, 4), reply);
     }
     if ins == table::GET_FILE_SETTINGS {
-        return description::show(
-            settings,
-            purse.allowance,
-            log.count,
-            wire::byte_at(d, 0),
-            reply,
-        );
+        return description::show(settings, purse.allowance, log.count, role, reply);
     }
     0
 }

@@ -1,27 +1,30 @@
--- What status 9100 says of the rows, for each command that a row tests.
+-- What status 9100 says of the rows, for each command that a row tests; and what is pending on the log.
 use Prim.Native.Nat.{ℕ}
-use mathlib.Core.Bool.{Bool, true, false, not, _&&_}
-use mathlib.Core.List.{List, []}
+use mathlib.Core.Bool.{Bool, true, false, not, _&&_, _||_}
+use mathlib.Core.List.{List, [], _∷_}
 use mathlib.Core.Path.{_≡_, refl, sym, _∙_}
 use borrow.Author.Tests.{not-false, eqb-true}
-use lib.Dec.{eqb}
+use lib.Dec.{eqb, ltb}
 use lib.ListN.{length, drop, take}
 use lib.IntN.{pos, _+ℤ_, _-ℤ_}
 use Rattle.tables.specs.Choice.{pick, none, or-no, and-right}
 use Rattle.tables.specs.Reasons.{NoReason, no-reason, first-passes}
 use Rattle.wire.specs.Bytes.{outsideOf}
-use Rattle.datafiles.specs.Files.{sizeOf}
+use Rattle.roles.specs.declared.Role.{Role}
+use Rattle.roles.specs.Roles.{sizeOf}
 use Rattle.limits.specs.declared.Limits.{Limits}
 use Rattle.limits.specs.Limits.{within}
 use Rattle.purse.specs.declared.Purse.{Purse}
-use Rattle.logbook.specs.Journal.{entrySize}
-use Rattle.frames.specs.Frame.{insOf, dataOf, fileOf, offsetOf, lengthOf, amountOf}
+use Rattle.logbook.specs.declared.Log.{Log}
+use Rattle.logbook.specs.Journal.{entrySize, some}
+use Rattle.logbook.specs.View as log
+use Rattle.frames.specs.Frame.{insOf, dataOf, offsetOf, lengthOf, amountOf}
 use Rattle.columns.specs.Table.{readData, writeData, credit, debit, limitedCredit, readRecords, writeRecord, getFileSettings, authenticateFirst, authenticateSecond, onFile}
-use Rattle.rows.specs.State.{Core}
+use Rattle.rows.specs.State.{Core, logPending}
 use Rattle.chains.specs.Chain.{isOpen}
 use Rattle.channel.specs.Channel.{isReal, isWaiting}
-use Rattle.modes.specs.Modes.{macedUnder, plainOf}
-use Rattle.rows.specs.Rows.{unknownCommand, interrupts, lengthCases, wrongLength, lacksMac, otherKindOrNever, notGranted, partFails, forged, usedUp, switchedOff, parameterCases, ranged, roomOf, amountCases, outside, longRead, nothingPending, macedIn, carriesMac, rowsFor, ok, statusFor, commandStatus}
+use Rattle.modes.specs.Modes.{roleIn, macedUnder, plainOf}
+use Rattle.rows.specs.Rows.{unknownCommand, interrupts, lengthCases, wrongLength, lacksMac, otherKindOrNever, notGranted, partFails, switchedOff, parameterCases, ranged, roomOf, amountCases, outside, longRead, nothingPending, macedIn, carriesMac, rowsFor, ok, statusFor, commandStatus}
 
 -- none of the sixteen rows applies
 pub clear : (o : Bool) (c : Core) (f : List ℕ) → statusFor o c f ≡ ok → NoReason (rowsFor o c f (insOf f) (dataOf f))
@@ -67,12 +70,9 @@ module _ (o : Bool) (c : Core) (i : ℕ) (x : List ℕ) (e : commandStatus o c i
   unfolding rowsFor
   long-enough = or-no _ _ (command-clear o c i x e .1 .1 .0)
 
-  pub counts : usedUp (c .channel .stage) i ≡ false
-  unfolding rowsFor
-  counts = or-no (forged (c .channel) (carriesMac o c i x) i x) _ (command-clear o c i x e .1 .1 .1 .1 .1 .1 .1 .0) .1
-
   -- place 12
-  pub inside : (outside (c .settings .limits) (c .purse) (length (c .journal .entries)) i plainIn ≡ false) × (longRead (carriesMac o c i x) i plainIn ≡ false)
+  pub inside : (outside (c .settings .limits) (c .purse) (length (c .journal .entries)) i (roleIn (c .settings) x) plainIn ≡ false)
+      × (longRead (carriesMac o c i x) i (roleIn (c .settings) x) plainIn ≡ false)
   unfolding rowsFor
   inside = or-no _ _ (command-clear o c i x e .1 .1 .1 .1 .1 .1 .1 .1 .1 .1 .0)
 
@@ -91,31 +91,42 @@ pub second-length : (o : Bool) (d : List ℕ) → wrongLength o authenticateSeco
 unfolding lengthCases
 second-length o d e = eqb-true (length d) 32 (not-false _ (none (lengthCases o authenticateSecond d) e .1 .1 .1 .1 .1 .1 .1 .1 .1 .1 .1 .1 .1 .0))
 
-module _ (l : Limits) (p : Purse) (n : ℕ) (d : List ℕ) where
-  pub read-inside : outside l p n readData d ≡ false → outsideOf (sizeOf (fileOf d)) (offsetOf d) (lengthOf d) ≡ false
+module _ (l : Limits) (p : Purse) (n : ℕ) (r : Role) (d : List ℕ) where
+  pub read-inside : outside l p n readData r d ≡ false → outsideOf (sizeOf r) (offsetOf d) (lengthOf d) ≡ false
   unfolding outside ranged roomOf pick
   read-inside e = e
 
-  pub write-inside : outside l p n writeData d ≡ false → outsideOf (sizeOf (fileOf d)) (offsetOf d) (lengthOf d) ≡ false
+  pub write-inside : outside l p n writeData r d ≡ false → outsideOf (sizeOf r) (offsetOf d) (lengthOf d) ≡ false
   unfolding outside ranged roomOf pick
   write-inside e = e
 
-  pub entries-inside : outside l p n readRecords d ≡ false → outsideOf n (offsetOf d) (lengthOf d) ≡ false
+  pub entries-inside : outside l p n readRecords r d ≡ false → outsideOf n (offsetOf d) (lengthOf d) ≡ false
   unfolding outside ranged roomOf pick
   entries-inside e = e
 
-  pub entry-inside : outside l p n writeRecord d ≡ false → outsideOf entrySize (offsetOf d) (lengthOf d) ≡ false
+  pub entry-inside : outside l p n writeRecord r d ≡ false → outsideOf entrySize (offsetOf d) (lengthOf d) ≡ false
   unfolding outside ranged roomOf pick
   entry-inside e = e
 
-  pub credit-inside : outside l p n credit d ≡ false → within l (p .pending +ℤ pos (amountOf d)) ≡ true
+  pub credit-inside : outside l p n credit r d ≡ false → within l (p .pending +ℤ pos (amountOf d)) ≡ true
   unfolding outside ranged amountCases pick
   credit-inside e = not-false _ (none (amountCases l p credit (amountOf d)) e .0)
 
-  pub debit-inside : outside l p n debit d ≡ false → within l (p .pending -ℤ pos (amountOf d)) ≡ true
+  pub debit-inside : outside l p n debit r d ≡ false → within l (p .pending -ℤ pos (amountOf d)) ≡ true
   unfolding outside ranged amountCases pick
   debit-inside e = not-false _ (none (amountCases l p debit (amountOf d)) e .1 .0)
 
-  pub rebook-inside : outside l p n limitedCredit d ≡ false → (not (within l (p .pending +ℤ pos (amountOf d))) ≡ false) × (lib.Dec.ltb (p .left) (amountOf d) ≡ false)
+  pub rebook-inside : outside l p n limitedCredit r d ≡ false → (not (within l (p .pending +ℤ pos (amountOf d))) ≡ false) × (ltb (p .left) (amountOf d) ≡ false)
   unfolding outside ranged amountCases pick
   rebook-inside e = or-no _ _ (none (amountCases l p limitedCredit (amountOf d)) e .1 .1 .0)
+
+-- ---- the log
+
+-- what is pending on it by its two flags
+pub pending-view : (l : Log) → logPending (log.view l) ≡ (l .adds || l .clears)
+unfolding logPending log.view some pick
+pending-view l = by (l .adds)
+  where
+    by : (b : Bool) → (some (pick b (l .entry ∷ []) []) || l .clears) ≡ (b || l .clears)
+    by true = refl
+    by false = refl

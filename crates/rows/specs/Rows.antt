@@ -8,7 +8,9 @@ use lib.ListN.{length, drop}
 use Rattle.tables.specs.Choice.{pick, any}
 use Rattle.tables.specs.Reasons.{Reason, _when_, first}
 use Rattle.wire.specs.Bytes.{outsideOf, same}
-use Rattle.datafiles.specs.Files.{sizeOf, endOf}
+use Rattle.roles.specs.declared.Role.{Role}
+use Rattle.roles.specs.Roles.{isFile, sizeOf}
+use Rattle.datafiles.specs.Files.{endOf}
 use Rattle.limits.specs.declared.Limits.{Limits}
 use Rattle.limits.specs.Limits.{within}
 use Rattle.purse.specs.declared.Purse.{Purse}
@@ -24,12 +26,13 @@ use Rattle.channel.specs.declared.Channel.{Channel}
 use Rattle.channel.specs.Channel.{isWaiting, stageKey, counterOf}
 use Rattle.sealing.specs.Sealing.{sealOf}
 use Rattle.handshake.specs.Handshake.{fails}
-use Rattle.columns.specs.Table.{readData, writeData, getValue, credit, debit, limitedCredit, readRecords, writeRecord, clearRecordFile, commitTransaction, abortTransaction, getFileSettings, authenticateFirst, authenticateSecond, onData, onFile, namesFile, ends, isBase, isFile, suits}
-use Rattle.frames.specs.Frame.{insOf, dataOf, fileOf, offsetOf, lengthOf, amountOf, optionOf, keyIn, capsIn, lrpIn, wrongSize, wrongClass, wrongParameters, wrongFrame}
+use Rattle.columns.specs.Table.{readData, writeData, getValue, credit, debit, limitedCredit, readRecords, writeRecord, clearRecordFile, commitTransaction, abortTransaction, getFileSettings, authenticateFirst, authenticateSecond, onData, onFile, namesFile, ends, isBase, suits}
+use Rattle.frames.specs.Frame.{insOf, dataOf, offsetOf, lengthOf, amountOf, optionOf, keyIn, capsIn, lrpIn, wrongSize, wrongClass, wrongParameters, wrongFrame}
 use Rattle.rows.specs.State.{Core, logPending}
-use Rattle.modes.specs.Modes.{accessFor, maced, macSize, plainOf, macOf}
+use Rattle.modes.specs.Modes.{roleIn, accessFor, maced, macSize, plainOf, macOf}
 
 -- ---- places 5 to 13: the INS i with the data field d, at the stage g; x is the data field as sent, m that it carries a MAC;
+-- r is the role of the file that it names;
 -- o says that the frame opens a chain: a WriteData without its bytes and its MAC
 
 -- INS not in the command table; a second part without a first; an opening of another INS than WriteData
@@ -72,13 +75,13 @@ wrongLength o i d = any (lengthCases o i d)
 unfoldable pub lacksMac : Bool → List ℕ → Bool
 lacksMac m x = m && ltb (length x) macSize
 
--- file number not in the file table
-unfoldable pub unknownFile : ℕ → ℕ → Bool
-unknownFile i n = namesFile i && not (isFile n)
+-- file number not in the card
+unfoldable pub unknownFile : ℕ → Role → Bool
+unknownFile i r = namesFile i && not (isFile r)
 
 -- file of another kind; or every condition that could grant the command is Fh
-unfoldable pub otherKindOrNever : ℕ → ℕ → Access → Bool
-otherKindOrNever i n a = onFile i && (not (suits i n) || isNever a)
+unfoldable pub otherKindOrNever : ℕ → Role → Access → Bool
+otherKindOrNever i r a = onFile i && (not (suits i r) || isNever a)
 
 -- no granting condition is free or equals the session key
 unfoldable pub notGranted : ℕ → Access → Bool
@@ -104,10 +107,11 @@ usedUp g i = isBase i && eqb (counterOf g) 0xFFFF
 unfoldable pub switchedOff : ℕ → Bool → Bool → Bool
 switchedOff i limited clears = (eqb i limitedCredit && not limited) || (eqb i writeRecord && clears)
 
--- amount of 0 or negative; authentication key above 4 or LRP bit set
+-- amount of 0 or negative
 abbrev pub noAmount : List ℕ → Bool
 noAmount d = eqb (amountOf d) 0 || leb 0x80000000 (amountOf d)
 
+-- authentication key above 4, or LRP bit set
 abbrev pub noKey : List ℕ → Bool
 noKey d = ltb 4 (keyIn d) || eqb (lrpIn d) 1
 
@@ -128,8 +132,8 @@ unfoldable pub ranged : ℕ → Bool
 ranged i = onData i || eqb i readRecords || eqb i writeRecord
 
 -- and the room that they are held to: the file's bytes, the log's entries, a new entry's bytes
-unfoldable pub roomOf : ℕ → ℕ → ℕ → ℕ
-roomOf i n entries = pick (eqb i readRecords) entries (pick (eqb i writeRecord) entrySize (sizeOf n))
+unfoldable pub roomOf : ℕ → Role → ℕ → ℕ
+roomOf i r entries = pick (eqb i readRecords) entries (pick (eqb i writeRecord) entrySize (sizeOf r))
 
 -- the new pending value outside the limits; more than what is left of the allowance
 unfoldable pub amountCases : Limits → Purse → ℕ → ℕ → List Bool
@@ -143,13 +147,13 @@ abbrev pub outsideAmount : Limits → Purse → ℕ → ℕ → Bool
 outsideAmount l p i a = any (amountCases l p i a)
 
 -- outside a file, the log, a limit or the allowance
-unfoldable pub outside : Limits → Purse → ℕ → ℕ → List ℕ → Bool
-outside l p entries i d =
-    pick (ranged i) (outsideOf (roomOf i (fileOf d) entries) (offsetOf d) (lengthOf d)) (outsideAmount l p i (amountOf d))
+unfoldable pub outside : Limits → Purse → ℕ → ℕ → Role → List ℕ → Bool
+outside l p entries i r d =
+    pick (ranged i) (outsideOf (roomOf i r entries) (offsetOf d) (lengthOf d)) (outsideAmount l p i (amountOf d))
 
 -- a ReadData in MAC mode of more than 248 bytes, length 0 counted as what it reads
-unfoldable pub longRead : Bool → ℕ → List ℕ → Bool
-longRead m i d = eqb i readData && (m && ltb 248 (endOf (sizeOf (fileOf d)) (offsetOf d) (lengthOf d) - offsetOf d))
+unfoldable pub longRead : Bool → ℕ → Role → List ℕ → Bool
+longRead m i r d = eqb i readData && (m && ltb 248 (endOf (sizeOf r) (offsetOf d) (lengthOf d) - offsetOf d))
 
 -- commit or abort with nothing pending
 unfoldable pub nothingPending : ℕ → Bool → Bool → Bool
@@ -161,10 +165,10 @@ nothingPending i value log = ends i && not (value || log)
 abbrev pub macedIn : Core → ℕ → List ℕ → Bool
 macedIn c i x = maced (c .settings) (c .channel .stage) i x
 
--- places 1 to 13: the frame f, with the INS i and the data field x, which is d without its MAC where m says that it has one;
--- access to the file is a
-abbrev pub rowsUnder : Bool → Access → Bool → Core → List ℕ → ℕ → List ℕ → List ℕ → List Reason
-rowsUnder o a m c f i x d =
+-- places 1 to 13: the frame f, with the INS i, the data field x, and d, which is x without its MAC where m says that it has one;
+-- it names a file of role r, to which access is a
+abbrev pub rowsUnder : Bool → Role → Access → Bool → Core → List ℕ → ℕ → List ℕ → List ℕ → List Reason
+rowsUnder o r a m c f i x d =
     (0x6700 when wrongSize f)
     ∷ (0x6E00 when wrongClass f)
     ∷ (0x6A86 when wrongParameters f)
@@ -172,14 +176,14 @@ rowsUnder o a m c f i x d =
     ∷ (0x911C when unknownCommand o (c .channel .stage) i)
     ∷ (0x91CA when interrupts (c .channel .stage) (c .channel .chain) i)
     ∷ (0x917E when wrongLength o i d || lacksMac m x)
-    ∷ (0x91F0 when unknownFile i (fileOf x))
-    ∷ (0x919D when otherKindOrNever i (fileOf x) a)
+    ∷ (0x91F0 when unknownFile i r)
+    ∷ (0x919D when otherKindOrNever i r a)
     ∷ (0x91AE when notGranted i a || partFails (c .keys) (c .channel) i d)
     ∷ (0x919D when sealedChain o (macedIn c i x))
     ∷ (0x911E when forged (c .channel) m i x || usedUp (c .channel .stage) i)
     ∷ (0x919D when switchedOff i (c .settings .limited) (c .journal .clears))
     ∷ (0x919E when badParameter i d)
-    ∷ (0x91BE when outside (c .settings .limits) (c .purse) (length (c .journal .entries)) i d || longRead m i d)
+    ∷ (0x91BE when outside (c .settings .limits) (c .purse) (length (c .journal .entries)) i r d || longRead m i r d)
     ∷ (0x910C when nothingPending i (c .purse .moved) (logPending (c .journal)))
     ∷ []
 
@@ -192,7 +196,8 @@ abbrev pub carriesMac : Bool → Core → ℕ → List ℕ → Bool
 carriesMac o c i x = carries o (macedIn c i x)
 
 unfoldable pub rowsFor : Bool → Core → List ℕ → ℕ → List ℕ → List Reason
-rowsFor o c f i x = rowsUnder o (accessFor (c .settings) (c .channel .stage) i x) (carriesMac o c i x) c f i x (plainOf (carriesMac o c i x) x)
+rowsFor o c f i x =
+    rowsUnder o (roleIn (c .settings) x) (accessFor (c .settings) (c .channel .stage) i x) (carriesMac o c i x) c f i x (plainOf (carriesMac o c i x) x)
 
 -- where none applies; the status of an accepted command's reply is a matter of the command
 abbrev pub ok : ℕ

@@ -1,1 +1,1 @@
-// The fifteen reasons for refusal: definitions and laws of them, with nothing to run.
+// The sixteen reasons for refusal: definitions and laws of them, with nothing to run.

@@ -1,5 +1,4 @@
 // The terminal's side of MAC mode: a plain frame with its MAC put in.
-ghost use mathlib.Core.Path.{_≡_};
 ghost use mathlib.Core.List.{[], _∷_, _++_};
 ghost use Prim.Native.Nat.{_+_, _≤_};
 ghost use lib.ListN.{length, take};

@@ -1,89 +1,151 @@
-// What personalisation fixes, and what it grants.
+// What personalisation fixes, which file a number names, and what is granted.
 use access::Access;
 use access::Session;
 use columns::Row;
 use columns::table;
-use datafiles::Files;
 use limits::Limits;
+use roles::Role;
 ghost use mathlib.Core.Path.{_≡_};
-ghost use Rattle.settings.specs.Settings.{alike, rightsOf, macFile, accessTo, rightsBroken};
+ghost use Rattle.settings.specs.Settings.{unchosen, absent, alike, fileAt, roleOf, namedBy, nothing, accessBy, rightsBroken, numberAbove, numberTwice};
+
+// Of one file: its number, its rights, and whether it is in MAC mode; else it is plain.
+pub struct FileSettings {
+    pub number: u8,
+    pub rights: u16,
+    pub maced: bool,
+}
 
 pub struct Settings {
-    // The rights of files 00h, 04h, 1Fh, 03h and 01h.
-    pub r00: u16,
-    pub r04: u16,
-    pub r1f: u16,
-    pub r03: u16,
-    pub r01: u16,
-    // Which of them are in MAC mode; the others are plain.
-    pub m00: bool,
-    pub m04: bool,
-    pub m1f: bool,
-    pub m03: bool,
-    pub m01: bool,
+    // The two long data files, the short one, the value file, the log.
+    pub first: FileSettings,
+    pub second: FileSettings,
+    pub short: FileSettings,
+    pub value: FileSettings,
+    pub log: FileSettings,
     pub limits: Limits,
     // LimitedCredit is on; GetValue is free.
     pub limited: bool,
     pub free: bool,
 }
 
+// What a number names: the role, and what is fixed of the file.
+pub struct Named {
+    pub role: Role,
+    pub file: FileSettings,
+}
+
+impl Named {
+    // No file.
+    pub fn nothing() -> Named
+        ensures { λ r. ⌜ r ≡ nothing ⌝ }
+    {
+        Named {
+            role: Role::NoFile,
+            file: FileSettings::absent(),
+        }
+    }
+}
+
+impl FileSettings {
+    // The largest number of a file.
+    pub const LARGEST_NUMBER: u8 = 0x1F;
+
+    // What stands for the file that no number names: nobody's, and plain.
+    fn absent() -> FileSettings
+        ensures { λ r. ⌜ r ≡ absent ⌝ }
+    {
+        FileSettings::unchosen(Role::NoFile, 0xFFFF)
+    }
+
+    // A file with these rights whose number and mode were not chosen.
+    fn unchosen(role: Role, rights: u16) -> FileSettings
+        ensures { λ r. ⌜ r ≡ unchosen role rights ⌝ }
+    {
+        FileSettings {
+            number: role.default_number(),
+            rights,
+            maced: false,
+        }
+    }
+}
+
 impl Settings {
-    // The same rights for every file, plain modes, and GetValue not free.
+    // The same rights for every file, default numbers, plain modes, and GetValue not free.
     pub fn alike(rights: u16, limits: Limits, limited: bool) -> Settings
         ensures { λ r. ⌜ r ≡ alike rights limits limited ⌝ }
     {
         Settings {
-            r00: rights,
-            r04: rights,
-            r1f: rights,
-            r03: rights,
-            r01: rights,
-            m00: false,
-            m04: false,
-            m1f: false,
-            m03: false,
-            m01: false,
+            first: FileSettings::unchosen(Role::FirstLong, rights),
+            second: FileSettings::unchosen(Role::SecondLong, rights),
+            short: FileSettings::unchosen(Role::ShortData, rights),
+            value: FileSettings::unchosen(Role::ValueFile, rights),
+            log: FileSettings::unchosen(Role::LogFile, rights),
             limits,
             limited,
             free: false,
         }
     }
 
-    // The rights of file n.
-    pub fn rights(self, n: u8) -> u16
-        ensures { λ r. ⌜ r ≡ rightsOf self n ⌝ }
+    // What the number n names. The file comes with the role, in one search: a choice by the role later would be a jump by a table.
+    pub fn named(self, n: u8) -> Named
+        ensures { λ r. ⌜ r ≡ namedBy self (roleOf self n) ⌝ }
     {
-        if n == Files::DATA_00 {
-            return self.r00;
+        if n == self.first.number {
+            let file = self.first;
+            return Named {
+                role: Role::FirstLong,
+                file,
+            };
         }
-        if n == Files::DATA_04 {
-            return self.r04;
+        if n == self.second.number {
+            let file = self.second;
+            return Named {
+                role: Role::SecondLong,
+                file,
+            };
         }
-        if n == Files::DATA_1F {
-            return self.r1f;
+        if n == self.short.number {
+            let file = self.short;
+            return Named {
+                role: Role::ShortData,
+                file,
+            };
         }
-        if n == table::VALUE_03 {
-            return self.r03;
+        if n == self.value.number {
+            let file = self.value;
+            return Named {
+                role: Role::ValueFile,
+                file,
+            };
         }
-        self.r01
+        if n == self.log.number {
+            let file = self.log;
+            return Named {
+                role: Role::LogFile,
+                file,
+            };
+        }
+        Named::nothing()
     }
 
-    // Whether n is the number of a file in MAC mode.
-    pub fn has_mac(self, n: u8) -> bool
-        ensures { λ r. ⌜ r ≡ macFile self n ⌝ }
+    // What is fixed of the file of a role.
+    pub fn file(self, role: Role) -> FileSettings
+        ensures { λ r. ⌜ r ≡ fileAt self role ⌝ }
     {
-        ((n == Files::DATA_00) & self.m00)
-            | ((n == Files::DATA_04) & self.m04)
-            | ((n == Files::DATA_1F) & self.m1f)
-            | ((n == table::VALUE_03) & self.m03)
-            | ((n == table::LOG_01) & self.m01)
+        match role {
+            Role::FirstLong => self.first,
+            Role::SecondLong => self.second,
+            Role::ShortData => self.short,
+            Role::ValueFile => self.value,
+            Role::LogFile => self.log,
+            Role::NoFile => FileSettings::absent(),
+        }
     }
 
-    // Whether the command may be used on file n under this session.
-    pub fn access_to(self, session: Session, ins: u8, n: u8) -> Access
-        ensures { λ r. ⌜ r ≡ accessTo self session ins n ⌝ }
+    // Whether the command may be used on a file with these rights under this session.
+    pub fn access_by(self, rights: u16, session: Session, ins: u8) -> Access
+        ensures { λ r. ⌜ r ≡ accessBy self rights session ins ⌝ }
     {
-        let rights = self.rights(n);
         let row = Row::of_command(ins);
         access::decide(
             rights,
@@ -98,18 +160,43 @@ impl Settings {
     pub fn has_wrong_rights(self) -> bool
         ensures { λ r. ⌜ r ≡ rightsBroken self ⌝ }
     {
-        if !access::rights_are_sound(self.r00) {
-            return true;
-        }
-        if !access::rights_are_sound(self.r04) {
-            return true;
-        }
-        if !access::rights_are_sound(self.r1f) {
-            return true;
-        }
-        if !access::rights_are_sound(self.r03) {
-            return true;
-        }
-        !access::rights_are_sound(self.r01)
+        let first = access::rights_are_sound(self.first.rights);
+        let second = access::rights_are_sound(self.second.rights);
+        let short = access::rights_are_sound(self.short.rights);
+        let value = access::rights_are_sound(self.value.rights);
+        let log = access::rights_are_sound(self.log.rights);
+        !first | !second | !short | !value | !log
+    }
+
+    // Whether a file's number is above 1Fh.
+    pub fn has_number_above(self) -> bool
+        ensures { λ r. ⌜ r ≡ numberAbove self ⌝ }
+    {
+        (FileSettings::LARGEST_NUMBER < self.first.number)
+            | (FileSettings::LARGEST_NUMBER < self.second.number)
+            | (FileSettings::LARGEST_NUMBER < self.short.number)
+            | (FileSettings::LARGEST_NUMBER < self.value.number)
+            | (FileSettings::LARGEST_NUMBER < self.log.number)
+    }
+
+    // Whether two files have the same number.
+    pub fn has_number_twice(self) -> bool
+        ensures { λ r. ⌜ r ≡ numberTwice self ⌝ }
+    {
+        let first = self.first.number;
+        let second = self.second.number;
+        let short = self.short.number;
+        let value = self.value.number;
+        let log = self.log.number;
+        (first == second)
+            | (first == short)
+            | (first == value)
+            | (first == log)
+            | (second == short)
+            | (second == value)
+            | (second == log)
+            | (short == value)
+            | (short == log)
+            | (value == log)
     }
 }

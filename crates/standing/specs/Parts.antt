@@ -17,7 +17,7 @@ use Rattle.chains.specs.Chain.{isOpen, chainSound}
 use Rattle.channel.specs.declared.Stage.{Stage}
 use Rattle.channel.specs.Channel.{stageSound, isWaiting}
 use Rattle.settings.specs.declared.Settings.{Settings}
-use Rattle.settings.specs.Settings.{rightsBroken}
+use Rattle.settings.specs.Settings.{rightsBroken, numberAbove, numberTwice}
 use Rattle.standing.specs.Rules.{unequal, rules, brokenBy}
 
 -- of the value file; logPending: a new entry or a clear is pending
@@ -60,6 +60,8 @@ abbrev pub parts : Settings → Purse → Log → Stage → Chain → List Bool
 parts s p l g k =
     rightsBroken s
     ∷ crossed (s .limits)
+    ∷ numberAbove s
+    ∷ numberTwice s
     ∷ not (stageSound g)
     ∷ logBroken l
     ∷ valueBroken (s .limits) p (l .adds || l .clears)
@@ -70,17 +72,17 @@ module _ (s : Settings) (p : Purse) (l : Log) (g : Stage) (k : Chain) where
   pub parted : brokenBy s p l g k ≡ false → None (parts s p l g k)
   unfolding brokenBy logBroken valueBroken chainBroken
   parted e =
-      let (rights, (limits, (value, (pending, (few, (placed, (session, (allowance, (left, (apart, (debits, (noted, (equal, (chain, (free, t))))))))))))))) = none (rules s p l g k) e in
-      (rights, (limits, (session, (or-none _ _ (or-none _ _ few placed) apart, (no-any (valueRules (s .limits) p (l .adds || l .clears)) (value, (pending, (allowance, (left, (debits, (noted, (equal, tt))))))), (or-none _ _ chain free, tt))))))
+      let (rights, (limits, (value, (above, (twice, (pending, (few, (placed, (session, (allowance, (left, (apart, (debits, (noted, (equal, (chain, (free, t))))))))))))))))) = none (rules s p l g k) e in
+      (rights, (limits, (above, (twice, (session, (or-none _ _ (or-none _ _ few placed) apart, (no-any (valueRules (s .limits) p (l .adds || l .clears)) (value, (pending, (allowance, (left, (debits, (noted, (equal, tt))))))), (or-none _ _ chain free, tt))))))))
 
   pub joined : None (parts s p l g k) → brokenBy s p l g k ≡ false
   unfolding brokenBy logBroken valueBroken chainBroken
-  joined (rights, (limits, (session, (log, (figures, (open-chain, t)))))) =
+  joined (rights, (limits, (above, (twice, (session, (log, (figures, (open-chain, t)))))))) =
       let (low, apart) = or-no _ _ log in
       let (few, placed) = or-no _ _ low in
       let (value, (pending, (allowance, (left, (debits, (noted, (equal, u))))))) = none (valueRules (s .limits) p (l .adds || l .clears)) figures in
       let (chain, free) = or-no _ _ open-chain in
-      no-any (rules s p l g k) (rights, (limits, (value, (pending, (few, (placed, (session, (allowance, (left, (apart, (debits, (noted, (equal, (chain, (free, tt)))))))))))))))
+      no-any (rules s p l g k) (rights, (limits, (value, (above, (twice, (pending, (few, (placed, (session, (allowance, (left, (apart, (debits, (noted, (equal, (chain, (free, tt)))))))))))))))))
 
   pub by-parts : any (parts s p l g k) ≡ brokenBy s p l g k
   by-parts = fail-alike _ _ (λ e. joined (none (parts s p l g k) e)) (λ e. no-any (parts s p l g k) (parted e))

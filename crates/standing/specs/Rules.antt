@@ -1,4 +1,4 @@
--- The standing rules, which bench refusal 6 tests, and bench refusals 1 to 3 of an order.
+-- The standing rules, which bench refusal 6 tests, and bench refusals 1 to 3, 7 and 8 of an order.
 use Prim.Native.Nat.{ℕ}
 use mathlib.Core.List.{List, [], _∷_}
 use mathlib.Core.Bool.{Bool, not, _&&_, _||_}
@@ -17,7 +17,7 @@ use Rattle.chains.specs.Chain.{isOpen, chainSound}
 use Rattle.channel.specs.declared.Stage.{Stage}
 use Rattle.channel.specs.Channel.{stageSound, isWaiting}
 use Rattle.settings.specs.declared.Settings.{Settings}
-use Rattle.settings.specs.Settings.{rightsBroken}
+use Rattle.settings.specs.Settings.{rightsBroken, numberAbove, numberTwice}
 
 -- two figures of 32 bits are the same where their bits are
 abbrev pub same : ℤ → ℤ → Bool
@@ -32,12 +32,14 @@ unequal p =
     ∷ p .debited
     ∷ [])
 
--- in the paper's order, those behind bench refusals 1 to 3 first, then those of a chain; each line says that one rule is broken
+-- in the paper's order, those behind bench refusals 1 to 3, 7 and 8 first, those of a chain last; each line says that one rule is broken
 abbrev pub rules : Settings → Purse → Log → Stage → Chain → List Bool
 rules s p l g k =
     rightsBroken s
     ∷ crossed (s .limits)
     ∷ not (within (s .limits) (p .value))
+    ∷ numberAbove s
+    ∷ numberTwice s
     ∷ not (within (s .limits) (p .pending))
     ∷ ltb mostEntries (l .count)
     ∷ not (ltb (l .place) mostEntries)
@@ -58,6 +60,11 @@ brokenBy s p l g k = any (rules s p l g k)
 
 -- ---- personalisation
 
--- the bench refusal of an order with the starting value v: a rights nibble is 5 to Dh; lower limit above upper; starting value outside the limits; 0: none of these
+-- the bench refusal's number by the first of an order's faults; 0 without one
+unfoldable pub firstFault : Bool → Bool → Bool → Bool → Bool → ℕ
+firstFault rights crossed outside above twice = pick rights 1 (pick crossed 2 (pick outside 3 (pick above 7 (pick twice 8 0))))
+
+-- of an order with the starting value v: a rights nibble is 5 to Dh; lower limit above upper; starting value outside the limits; a
+-- file's number above 1Fh; two files of the same number
 unfoldable pub orderRefusal : Settings → ℤ → ℕ
-orderRefusal s v = pick (rightsBroken s) 1 (pick (crossed (s .limits)) 2 (pick (not (within (s .limits) v)) 3 0))
+orderRefusal s v = firstFault (rightsBroken s) (crossed (s .limits)) (not (within (s .limits) v)) (numberAbove s) (numberTwice s)

@@ -6,7 +6,7 @@ use logbook::Log;
 use purse::Purse;
 use settings::Settings;
 ghost use mathlib.Core.Path.{_≡_};
-ghost use Rattle.standing.specs.Rules.{unequal, brokenBy, orderRefusal};
+ghost use Rattle.standing.specs.Rules.{unequal, brokenBy, firstFault, orderRefusal};
 ghost use Rattle.standing.specs.Parts.{valueBroken, logBroken, chainBroken};
 
 // Whether the pending figures differ from the committed ones, or a Debit is noted.
@@ -52,11 +52,35 @@ pub fn breaks(settings: Settings, purse: Purse, log: Log, stage: Stage, chain: C
     let limits = settings.limits;
     let rights = settings.has_wrong_rights();
     let crossed = limits.are_crossed();
+    let above = settings.has_number_above();
+    let twice = settings.has_number_twice();
     let known = stage.is_sound();
     let in_log = log_breaks(log);
     let in_value = value_breaks(purse, limits, log.adds | log.clears);
     let in_chain = chain_breaks(stage, chain);
-    rights | crossed | !known | in_log | in_value | in_chain
+    rights | crossed | above | twice | !known | in_log | in_value | in_chain
+}
+
+// The first of an order's faults names its refusal; 0 without one.
+fn first_fault(rights: bool, crossed: bool, outside: bool, above: bool, twice: bool) -> u8
+    ensures { λ r. ⌜ r ≡ firstFault rights crossed outside above twice ⌝ }
+{
+    if rights {
+        return 1;
+    }
+    if crossed {
+        return 2;
+    }
+    if outside {
+        return 3;
+    }
+    if above {
+        return 7;
+    }
+    if twice {
+        return 8;
+    }
+    0
 }
 
 // The bench refusal of a personalisation, or 0.
@@ -67,14 +91,7 @@ pub fn refusal(settings: Settings, value: i32) -> u8
     let rights = settings.has_wrong_rights();
     let crossed = limits.are_crossed();
     let held = limits.hold(value);
-    if rights {
-        return 1;
-    }
-    if crossed {
-        return 2;
-    }
-    if !held {
-        return 3;
-    }
-    0
+    let above = settings.has_number_above();
+    let twice = settings.has_number_twice();
+    first_fault(rights, crossed, !held, above, twice)
 }

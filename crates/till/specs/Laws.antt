@@ -1,5 +1,5 @@
 -- How long a frame with its MAC is, and where there is one.
-use Prim.Native.Nat.{ℕ, _+_, _-_, _≤_, _<_}
+use Prim.Native.Nat.{ℕ, _+_, _≤_, _<_}
 use mathlib.Core.Bool.{true}
 use mathlib.Core.List.{List, []}
 use mathlib.Core.Path.{_≡_, refl, ap, _∙_}
@@ -9,19 +9,10 @@ use lib.ListN.{length, length-append}
 use lib.Seq.{length-take-le}
 use native.Mathlib.Omega.{arith}
 use Rattle.tables.specs.Choice.{pick, picked, passed, pick-both, and-both, and-left, and-right, and-yes}
-use Rattle.wire.specs.Laws.{length-part}
 use Rattle.text.specs.Laws.{room-yes, room-no}
 use Rattle.frames.specs.Frame.{insOf, dataOf}
-use Rattle.cmac.specs.Laws.{length-truncated}
-use Rattle.sealing.specs.Sealing.{sealOf}
+use Rattle.sealing.specs.Laws.{length-seal}
 use Rattle.till.specs.Till.{sealed, sealable, sealedIn}
-
-pub length-seal : (key : List ℕ) (first counter : ℕ) (ti x : List ℕ) → length (sealOf key first counter ti x) ≡ 8
-unfolding sealOf
-length-seal key first counter ti x = length-truncated _
-
-pub length-data : (f : List ℕ) → length (dataOf f) ≡ length f - 1 - 5
-length-data f = length-part f 5 (length f - 1) (omega arith)
 
 pub length-sealed : (key ti : List ℕ) (counter : ℕ) (f : List ℕ) → 5 ≤ length f → length (sealed key ti counter f) ≡ length (dataOf f) + 14
 unfolding sealed

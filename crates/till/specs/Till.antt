@@ -1,5 +1,5 @@
 -- The terminal's side of AuthenticateEV2First and of MAC mode: the frames it sends, and what it reads out of the replies.
--- K is the key, a is RndA, b is RndB. E and D are CBC without padding. The session MAC key is handshake's `macKey`.
+-- K is the key, a is RndA, b is RndB. E and D are CBC without padding. The session MAC key is derivation's `macKey`.
 use Prim.Native.Nat.{ℕ, _+_}
 use mathlib.Core.Bool.{Bool, _&&_}
 use mathlib.Core.List.{List, [], _∷_, _++_}

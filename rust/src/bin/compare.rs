@@ -22,9 +22,9 @@ Generates scripts of bench lines, runs PROGRAM on each as a new child process
 answer line, its LF included, with the reference model's. PROGRAM may be an
 emulator with the real program among its arguments.
 
-First come scripts of all sorts of lines, a quarter of them with chains, then
-some that play a session of AuthenticateEV2First to the end of its command
-counter, each with another end.
+First come scripts of all sorts of lines, a quarter of them with chains, and many
+on cards whose files have numbers of their own, then some that play a session of
+AuthenticateEV2First to the end of its command counter, each with another end.
 
 Options:
   --events N   run at least N events in the first: commands, frames of chains,

@@ -24,7 +24,8 @@ is read.
   D and an even number of hex digits, or  a frame of file bytes; prints the reply
   none                                    (none before the last), or !5
   an empty line                           a power-up; prints an empty line
-  P and 46 or 208 hex digits              personalises; prints !0, !1, !2 or !3
+  P and 46, 208 or 218 hex digits         personalises; prints !0, or !1, !2,
+                                          !3, !7 or !8
   S and 2 hex digits, or S alone          a session change; prints !0 or !4
   R and 4 hex digits (at most 0200)       length of the reply buffer; prints !0
   N and 40 hex digits                     the card's random number and

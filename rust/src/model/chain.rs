@@ -3,8 +3,8 @@
 //! file at once.
 
 use super::{
-    file_and_two, parse_frame, put_status, write_range, BenchRefusal, Card, FileName, Instruction,
-    Refusal, Reply, Session, Status, REPLY_ROOM,
+    file_and_two, parse_frame, put_status, write_range, BenchRefusal, Card, DataRole, Instruction,
+    Refusal, Reply, Role, Session, Status, REPLY_ROOM,
 };
 
 /// The most bytes in one file frame.
@@ -13,8 +13,8 @@ pub const LONGEST_FILE_FRAME: usize = 128;
 /// An open chain. Its range lies inside the file, and at least one byte is left.
 #[derive(Clone, Copy, Debug, PartialEq, Eq)]
 pub struct Chain {
-    /// The file, as 0, 1 or 2 for 00h, 04h and 1Fh.
-    pub file: usize,
+    /// The file, which its opening named by its number.
+    pub file: DataRole,
     /// The first place that is written.
     pub offset: usize,
     /// The announced length.
@@ -83,16 +83,16 @@ impl Card {
             return Err(Refusal::Interrupted);
         }
         let (number, offset, length) = file_and_two(data)?;
-        let file = match FileName::from_number(number)? {
-            FileName::Data(file) => file,
-            _ => return Err(Refusal::KindOrNever),
+        let file = match self.named(number)? {
+            Role::Data(file) => file,
+            Role::Value | Role::Log => return Err(Refusal::KindOrNever),
         };
-        self.check_access(write, FileName::Data(file))?;
+        self.check_access(write, Role::Data(file))?;
         if self.in_mac_mode(write, data) {
             return Err(Refusal::ChainInMacMode);
         }
         self.check_counter()?;
-        write_range(offset, length, self.data[file].bytes.len())?;
+        write_range(offset, length, file.size())?;
         Ok(Chain {
             file,
             offset,
@@ -110,7 +110,8 @@ impl Card {
             return Err(Refusal::DataLength);
         }
         let start = chain.next_place();
-        self.data[chain.file].bytes[start..start + bytes.len()].copy_from_slice(bytes);
+        let file = &mut self.data[chain.file.place()];
+        file.bytes[start..start + bytes.len()].copy_from_slice(bytes);
         let left = chain.left - bytes.len();
         if left > 0 {
             self.chain = Some(Chain { left, ..chain });

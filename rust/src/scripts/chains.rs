@@ -1,9 +1,10 @@
 //! Chains: openings, file frames, and what comes between them.
 
 use super::Writer;
-use crate::frames::{frame, ins, read_frame, FILES, LARGEST_3};
+use crate::frames::{frame, ins, read_frame, LARGEST_3};
 use crate::model::{
-    Card, Chain, Condition, Refusal, Session, Status, LAST_KEY, LONGEST_FILE_FRAME, REPLY_ROOM,
+    Card, Chain, Condition, DataRole, Numbers, Refusal, Role, Session, Status, LAST_KEY,
+    LONGEST_FILE_FRAME, REPLY_ROOM,
 };
 use crate::terminal;
 
@@ -123,8 +124,8 @@ impl Writer {
 
     /// An opening of a data file, with a range inside it.
     fn right_opening(&mut self) -> Vec<u8> {
-        let place = self.rng.below(3) as usize;
-        let size = Card::DATA_SIZES[place] as u64;
+        let role = self.rng.pick(&DataRole::ALL);
+        let size = role.size() as u64;
         let offset = match self.rng.below(8) {
             0..=3 => 0,
             4 => size - 1,
@@ -140,18 +141,23 @@ impl Writer {
             7..=8 => rest.min(240),
             _ => 1 + self.rng.below(rest),
         };
-        read_frame(ins::WRITE_DATA, FILES[place], offset, length)
+        read_frame(ins::WRITE_DATA, self.data_number(role), offset, length)
     }
 
     /// An opening that is refused, mostly, for one or more reasons, so that
     /// their order shows.
     fn wrong_opening(&mut self) -> Vec<u8> {
-        let file = if self.rng.percent(70) {
-            self.rng.pick(&FILES[..3])
-        } else {
-            self.rng.pick(&[0x03, 0x01, 0x02, 0x05, 0x1E, 0x20, 0xFF])
+        let role = self.rng.pick(&DataRole::ALL);
+        let file = match self.rng.below(20) {
+            0..=12 => self.data_number(role),
+            13..=14 => Numbers::DEFAULT.of(Role::Data(role)),
+            15 => {
+                let other = self.rng.pick(&[Role::Value, Role::Log]);
+                self.number(other)
+            }
+            _ => self.wrong_number(),
         };
-        let size = if file == 0x1F { 32 } else { 256 };
+        let size = self.data_size(file);
         let (offset, length) = if self.rng.percent(70) {
             self.range(size)
         } else {
@@ -310,18 +316,19 @@ impl Writer {
     /// Reads the whole file of a chain that is over, if it can be read, at times
     /// in another session.
     pub(super) fn read_back(&mut self, over: &OverChain) {
-        let place = over.chain.file;
-        let file = FILES[place];
+        let role = over.chain.file;
+        let file = self.data_number(role);
+        let size = role.size() as u64;
         if self.outcome(&self.read_of(file, 0, 1)) == Err(Refusal::NotGranted) {
             let stays = self.in_real_session() && self.rng.percent(60);
-            match self.key_to_read(place) {
+            match self.key_to_read(role) {
                 Some(key) if !stays => self.digits_line(b"S", &[key]),
                 _ => return,
             }
         }
         // A read in MAC mode has no room for all 256 bytes.
-        for offset in (0..Card::DATA_SIZES[place] as u64).step_by(128) {
-            let read = self.read_of(file, offset, 128.min(Card::DATA_SIZES[place] as u64));
+        for offset in (0..size).step_by(128) {
+            let read = self.read_of(file, offset, size.min(128));
             if self.outcome(&read).is_err() {
                 return;
             }
@@ -337,8 +344,8 @@ impl Writer {
     }
 
     /// A key that grants reading a data file.
-    fn key_to_read(&self, place: usize) -> Option<u8> {
-        let rights = self.bench.card().rights()[place];
+    fn key_to_read(&self, role: DataRole) -> Option<u8> {
+        let rights = self.bench.card().rights(Role::Data(role));
         [rights.read, rights.read_write]
             .into_iter()
             .find_map(|condition| match condition {

@@ -1,17 +1,15 @@
 //! Commands, sound in form and damaged.
 
 use super::Writer;
-use crate::frames::{
-    amount_frame, frame, ins, read_frame, write_frame, FILES, LARGEST_3, LONGEST_WRITE,
-};
+use crate::frames::{amount_frame, frame, ins, read_frame, write_frame, LARGEST_3, LONGEST_WRITE};
 use crate::messaging::MAC_SIZE;
-use crate::model::ENTRY_SIZE;
+use crate::model::{DataRole, Role, ENTRY_SIZE};
 
 impl Writer {
     /// A frame that is sound in form, with figures at and around the edges.
     pub(super) fn sound_frame(&mut self) -> Vec<u8> {
         if self.rng.percent(8) {
-            return frame(ins::GET_FILE_SETTINGS, &[self.file(&FILES)]);
+            return frame(ins::GET_FILE_SETTINGS, &[self.file(&Role::ALL)]);
         }
         let total: u64 = self.mood.weights.iter().sum();
         let mut roll = self.rng.below(total);
@@ -35,19 +33,6 @@ impl Writer {
                 frame(ins::COMMIT, &[option])
             }
             _ => frame(ins::ABORT, &[]),
-        }
-    }
-
-    /// One of the file numbers given, or rarely any other.
-    fn file(&mut self, fitting: &[u8]) -> u8 {
-        if self.rng.percent(95) {
-            self.rng.pick(fitting)
-        } else if self.rng.percent(70) {
-            self.rng.pick(&[
-                0x00, 0x01, 0x02, 0x03, 0x04, 0x05, 0x07, 0x0F, 0x1E, 0x1F, 0x20, 0x80, 0x9F, 0xFF,
-            ])
-        } else {
-            self.rng.byte()
         }
     }
 
@@ -109,10 +94,11 @@ impl Writer {
     }
 
     fn data_frame(&mut self) -> Vec<u8> {
-        let file = self.file(&[0x00, 0x04, 0x1F]);
-        let size = if file == 0x1F { 32 } else { 256 };
+        let file = self.file(&DataRole::ALL.map(Role::Data));
+        let size = self.data_size(file);
+        let long = size == DataRole::FirstLong.size() as u64;
         if self.rng.percent(50) {
-            let (offset, length) = if size == 256 && self.rng.percent(15) {
+            let (offset, length) = if long && self.rng.percent(15) {
                 self.around_the_longest_mac_read()
             } else {
                 self.range(size)
@@ -136,7 +122,7 @@ impl Writer {
     }
 
     fn log_frame(&mut self) -> Vec<u8> {
-        let file = self.file(&[0x01]);
+        let file = self.file(&[Role::Log]);
         match self.rng.below(24) {
             0..=8 => {
                 let entries = self.bench.card().books().entries;
@@ -149,7 +135,7 @@ impl Writer {
     }
 
     fn value_frame(&mut self) -> Vec<u8> {
-        let file = self.file(&[0x03]);
+        let file = self.file(&[Role::Value]);
         let books = self.bench.card().books();
         let mut instruction = self.rng.pick(&[
             ins::GET_VALUE,
@@ -260,11 +246,7 @@ impl Writer {
                 *frame = self::frame(frame[1], &data);
             }
             // A file number of another or no file.
-            13 if frame.len() > 6 => {
-                frame[5] = self
-                    .rng
-                    .pick(&[0x00, 0x04, 0x1F, 0x03, 0x01, 0x02, 0x05, 0x1E, 0xFF]);
-            }
+            13 if frame.len() > 6 => frame[5] = self.wrong_number(),
             // Any length up to 300 bytes, Lc fitting or not.
             13..=14 => {
                 let length = 1 + self.rng.below(300) as usize;

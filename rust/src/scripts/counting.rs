@@ -2,15 +2,16 @@
 
 use super::chains::OverChain;
 use super::{FrameFault, Writer};
-use crate::bench::BASE_GROUP;
-use crate::frames::{amount_frame, file_place, ins, LONGEST_WRITE};
+use crate::bench::{BASE_GROUP, KEY_GROUP, NUMBER_GROUP};
+use crate::frames::{amount_frame, ins, LONGEST_WRITE};
+use crate::hex;
 use crate::messaging::MAC_SIZE;
 use crate::model::{
-    Accepted, Books, Chain, Condition, Entry, Mode, Refusal, Session, Status, LONGEST_MAC_READ,
-    REPLY_ROOM,
+    Accepted, Books, Chain, Condition, DataRole, Entry, Mode, Numbers, Refusal, Role, Session,
+    Status, HIGHEST_NUMBER, LONGEST_MAC_READ, REPLY_ROOM,
 };
 use crate::ring::Ring;
-use crate::tally::{LastEvent, LineSort, Tally};
+use crate::tally::{self, LastEvent, LineSort, Tally};
 use crate::terminal::parts;
 
 impl Writer {
@@ -25,8 +26,13 @@ impl Writer {
             LineSort::Session | LineSort::NoKey => tally.sessions += 1,
             LineSort::Room => tally.rooms += 1,
             LineSort::Personalisation => {
-                tally.personalisations[usize::from(self.answer[1] - b'0')] += 1;
+                let outcome = tally::ORDER_OUTCOMES
+                    .iter()
+                    .position(|&number| self.answer[1] == b'0' + number)
+                    .expect("an outcome of an order");
+                tally.personalisations[outcome] += 1;
                 tally.with_keys += u64::from(line.len() > 1 + 2 * BASE_GROUP);
+                self.count_order(line);
             }
             LineSort::Books => tally.books += 1,
             // By the last event, in `count_slots`.
@@ -52,6 +58,75 @@ impl Writer {
         };
         if drops {
             self.open = 0;
+        }
+    }
+
+    /// Counts what numbers an order has, whose answer is at hand.
+    fn count_order(&mut self, line: &[u8]) {
+        let mut numbers = Vec::with_capacity(NUMBER_GROUP);
+        match line.get(1 + 2 * (BASE_GROUP + KEY_GROUP)..) {
+            Some(digits) if !digits.is_empty() => hex::decode(digits, &mut numbers),
+            _ => return,
+        };
+        let tally = &mut self.tally;
+        tally.with_numbers += 1;
+        let above = numbers.iter().any(|&number| number > HIGHEST_NUMBER);
+        let twice = (1..numbers.len()).any(|at| numbers[..at].contains(&numbers[at]));
+        match self.answer[1] {
+            b'0' => {
+                let exchanged = numbers.iter().zip(Role::ALL).any(|(&number, role)| {
+                    Numbers::DEFAULT
+                        .role(number)
+                        .map_or(false, |old| old != role)
+                });
+                let own = numbers != Numbers::DEFAULT.in_order();
+                tally.own_numbers[usize::from(exchanged)] += u64::from(own);
+            }
+            b'7' => tally.high_and_twice += u64::from(twice),
+            b'8' => {}
+            _ => tally.hidden_numbers += u64::from(above || twice),
+        }
+    }
+
+    /// Counts what a command, or an opening, has to do with numbers that are not
+    /// the sheet's: one that is sent next.
+    fn count_number(&mut self, frame: &[u8], refusal: Option<Refusal>, is_opening: bool) {
+        let (instruction, data) = match parts(frame) {
+            Some(parts) => parts,
+            None => return,
+        };
+        let (number, place) = match (data.first(), ins::place(instruction)) {
+            (Some(&number), Some(place)) if !ins::WITHOUT_FILE.contains(&instruction) => {
+                (number, place)
+            }
+            _ => return,
+        };
+        let card = self.bench.card();
+        let now = card.numbers().role(number);
+        let by_default = Numbers::DEFAULT.role(number);
+        let tally = &mut self.tally;
+        match (refusal, now) {
+            (None, Some(role)) if by_default != now => {
+                tally.old_for_another += u64::from(by_default.is_some());
+                match role {
+                    Role::Data(role) if is_opening => tally.own_chains[role.place()] += 1,
+                    _ => {
+                        let maced = card.takes_mac(instruction, data);
+                        tally.by_own_number[usize::from(maced)][place] += 1;
+                    }
+                }
+            }
+            (Some(Refusal::FileNumber), _) if by_default.is_some() => {
+                tally.old_unknown[usize::from(is_opening)] += 1;
+            }
+            (Some(Refusal::KindOrNever), Some(role)) => {
+                let other_kind = match by_default {
+                    Some(old) => std::mem::discriminant(&old) != std::mem::discriminant(&role),
+                    None => false,
+                };
+                tally.old_of_another_kind[usize::from(is_opening)] += u64::from(other_kind);
+            }
+            _ => {}
         }
     }
 
@@ -117,13 +192,13 @@ impl Writer {
         if self.bench.room() < REPLY_ROOM {
             return;
         }
+        self.count_number(frame, outcome.err(), true);
         match (outcome, self.session_sort()) {
             (Ok(()), Some(session)) => {
-                let card = self.bench.card();
-                let file = file_place(frame[5]).expect("an accepted file is known");
-                let by_free = session == 2 && card.modes()[file] == Mode::Mac;
+                let role = self.role(frame[5]).expect("an accepted file is known");
+                let by_free = session == 2 && self.bench.card().mode(role) == Mode::Mac;
                 let length = u64::from(frame[9]) | u64::from(frame[10]) << 8;
-                self.tally.chains[session][file] += 1;
+                self.tally.chains[session][role.place()] += 1;
                 self.tally.free_chains += u64::from(by_free);
                 self.tally.long_chains += u64::from(length > LONGEST_WRITE);
             }
@@ -163,6 +238,7 @@ impl Writer {
             return;
         }
         self.count_in_session(frame, outcome);
+        self.count_number(frame, outcome.err(), false);
         match outcome {
             Ok(_) => self.count_accepted(frame),
             Err(refusal) => {
@@ -213,14 +289,15 @@ impl Writer {
                 let maced = card.takes_mac(instruction, data);
                 if let (true, Some(place)) = (accepted, ins::place(instruction)) {
                     tally.in_session[usize::from(maced)][place] += 1;
-                    let file = data.first().and_then(|&file| file_place(file));
-                    let mode = file.map(|place| card.modes()[place]);
+                    let role = data.first().and_then(|&number| card.numbers().role(number));
+                    let mode = role.map(|role| card.mode(role));
                     tally.free_in_mac_mode += u64::from(!maced && mode == Some(Mode::Mac));
                 }
                 let ended = session.counter == u16::MAX && outcome == Err(Refusal::Integrity);
                 tally.ended += u64::from(ended);
                 if maced && instruction == ins::READ_DATA {
-                    count_mac_read(tally, data, outcome);
+                    let short = card.numbers().of(Role::Data(DataRole::Short));
+                    count_mac_read(tally, data, short, outcome);
                 }
             }
             _ => {}
@@ -228,9 +305,10 @@ impl Writer {
     }
 
     fn count_zero_amount(&mut self, frame: &[u8]) {
+        let file = self.number(Role::Value);
         let place = ins::WITH_AMOUNT
             .iter()
-            .position(|&instruction| amount_frame(instruction, 0x03, 0) == frame);
+            .position(|&instruction| amount_frame(instruction, file, 0) == frame);
         if let Some(place) = place {
             self.tally.zero_amounts[place] += 1;
         }
@@ -255,11 +333,11 @@ impl Writer {
         })
     }
 
-    fn count_settings(&mut self, file: u8) {
-        let place = file_place(file).expect("an accepted file is known");
-        let rights = self.bench.card().rights()[place];
+    fn count_settings(&mut self, number: u8) {
+        let role = self.role(number).expect("an accepted file is known");
+        let rights = self.bench.card().rights(role);
         let sealed = [rights.read, rights.write, rights.read_write] == [Condition::Never; 3];
-        self.tally.settings[place] += 1;
+        self.tally.settings[role.place()] += 1;
         self.tally.sealed_settings += u64::from(sealed);
     }
 
@@ -288,8 +366,8 @@ impl Writer {
 }
 
 /// Counts a ReadData in MAC mode by how much it reads, if it stays inside a
-/// file of 256 bytes.
-fn count_mac_read(tally: &mut Tally, data: &[u8], outcome: Result<Accepted, Refusal>) {
+/// long file. The short one has this number.
+fn count_mac_read(tally: &mut Tally, data: &[u8], short: u8, outcome: Result<Accepted, Refusal>) {
     let figure = |at: usize| (0..3).map(|i| usize::from(data[at + i]) << (8 * i)).sum();
     if data.len() != 7 + MAC_SIZE || outcome == Err(Refusal::Integrity) {
         return;
@@ -299,7 +377,7 @@ fn count_mac_read(tally: &mut Tally, data: &[u8], outcome: Result<Accepted, Refu
         0 => 256usize.saturating_sub(offset),
         _ => length,
     };
-    if data[0] == 0x1F || offset + reads > 256 {
+    if data[0] == short || offset + reads > 256 {
         return;
     }
     tally.mac_reads_to_end += u64::from(length == 0 && outcome.is_ok());

@@ -1,7 +1,7 @@
 //! Lines that are no commands.
 
 use super::{Theme, Writer};
-use crate::bench::{BASE_GROUP, LONGEST_LINE};
+use crate::bench::{BASE_GROUP, KEY_GROUP, LONGEST_LINE, NUMBER_GROUP};
 use crate::frames::hex_line;
 use crate::model::{KEYS, LAST_KEY, REPLY_ROOM};
 
@@ -86,8 +86,15 @@ impl Writer {
         let others = self.rng.pick(&[0x00, 0x00, 0xFC, 0x80, 0x04]);
         let free = if self.rng.percent(40) { 0x02 } else { 0x00 };
         bytes.push(switches | free | others);
-        if self.theme != Theme::Base && self.rng.percent(85) {
+        let (keys, numbers) = match self.theme {
+            Theme::Base => (40, 100),
+            Theme::Sessions | Theme::Chains => (85, 55),
+        };
+        if self.rng.percent(keys) {
             self.put_key_group(&mut bytes);
+            if self.rng.percent(numbers) {
+                self.put_number_group(&mut bytes);
+            }
         }
         self.digits_line(b"P", &bytes);
     }
@@ -189,13 +196,21 @@ impl Writer {
             }
             12..=13 => {
                 // A personalisation of the wrong length or with a wrong letter.
-                let length = self.rng.pick(&[0, 22, 23, 24, 25, 102, 103, 104, 105]);
+                let whole = self.rng.pick(&[
+                    0,
+                    BASE_GROUP,
+                    BASE_GROUP + KEY_GROUP,
+                    BASE_GROUP + KEY_GROUP + NUMBER_GROUP,
+                ]);
+                let length = whole + self.rng.pick(&[0, 0, 1, 2, 3]);
                 let bytes = self.rng.some_bytes(length);
                 line = hex_line(b"P", &bytes);
-                match self.rng.below(3) {
+                match self.rng.below(4) {
                     0 => drop(line.pop()),
                     1 => line[0] = b'p',
-                    _ => line.push(b'0'),
+                    2 => line.push(b'0'),
+                    _ if length == whole && whole > 0 => line.truncate(line.len() - 2),
+                    _ => {}
                 }
             }
             // Random number and transaction identifier, cut, too long or with a

@@ -3,9 +3,9 @@
 
 use super::{Theme, Writer};
 use crate::aes::Block;
-use crate::frames::{frame, ins, FILES};
+use crate::frames::{frame, ins};
 use crate::messaging::{self, FirstPart, RealSession, MAC_SIZE};
-use crate::model::{Session, LAST_KEY};
+use crate::model::{Numbers, Session, LAST_KEY};
 use crate::terminal::{self, parts};
 
 /// What can be wrong with a MAC.
@@ -237,8 +237,9 @@ impl Writer {
         frame(ins::SECOND_PART, &data)
     }
 
-    /// A command that names a file of any kind, with and without the MAC that
-    /// the rights and the mode of that file ask for.
+    /// A command that names a file of any kind, or one that only other cards
+    /// have, with and without the MAC that the rights and the mode of that file
+    /// ask for, and at times with a MAC whatever they ask for.
     pub(super) fn other_kind(&mut self) {
         let instruction = self.rng.pick(&[
             ins::READ_DATA,
@@ -255,12 +256,19 @@ impl Writer {
             ins::GET_VALUE | ins::CLEAR_RECORD_FILE => 1,
             _ => 5,
         };
-        let mut data = vec![self.rng.pick(&FILES); length];
+        let number = match self.rng.below(10) {
+            0 => self.rng.pick(&Numbers::DEFAULT.in_order()),
+            _ => self.any_number(),
+        };
+        let mut data = vec![number; length];
         data[1..].fill(0x00);
-        let command = if self.rng.percent(50) {
-            frame(instruction, &data)
-        } else {
-            terminal::sealed(self.bench.card(), instruction, &data)
+        let command = match (self.rng.below(20), self.bench.card().session()) {
+            (0..=9, _) => frame(instruction, &data),
+            (10, Session::Real(session)) => {
+                data.extend_from_slice(&session.command_mac(instruction, &data));
+                frame(instruction, &data)
+            }
+            _ => terminal::sealed(self.bench.card(), instruction, &data),
         };
         self.send(&command);
     }

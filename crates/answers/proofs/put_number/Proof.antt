@@ -1,6 +1,5 @@
-use Rattle.text.specs.Adds.{shows-laid}
 use Rattle.text.specs.Laws.{room-yes, room-no}
-use Rattle.wire.specs.Laws.{shows-as, shows-none}
+use Rattle.wire.specs.Laws.{shows-as, shows-none, shows-whole}
 use Rattle.answers.specs.Answers.{numbered}
 use Rattle.answers.specs.Laws.{length-numbered}
 use lib.ListN.{length}
@@ -34,7 +33,7 @@ unfolding numbered
 returns-2 c =
     let a = c .before .before .before .before .before .before .before .args in
     let l = length-numbered (a .n) in
-    shows-as _ _ _ _ _ (sym (room-yes (length (now (a .answer))) (numbered (a .n)) (omega arith))) (shows-laid _ _ _ _ refl (omega arith) (c .before .before .lay .ensures))
+    shows-as _ _ _ _ _ (sym (room-yes (length (now (a .answer))) (numbered (a .n)) (omega arith))) (shows-whole _ _ _ _ refl (omega arith) (c .before .before .lay .ensures))
 
 pub put-number-spec : {M : Type 1} → statement M
 put-number-spec = tie.close (tie.spec returns add-t7 slice-aggregate-lay lay-requires same-length returns-2)

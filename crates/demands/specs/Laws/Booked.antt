@@ -11,6 +11,8 @@ use Rattle.purse.specs.Purse as purse
 use Rattle.logbook.specs.Journal as journal
 use Rattle.frames.specs.Frame.{insOf, dataOf}
 use Rattle.columns.specs.Table.{commitTransaction}
+use Rattle.roles.specs.declared.Role.{Role}
+use Rattle.modes.specs.Modes.{roleIn}
 use Rattle.rows.specs.State.{State}
 use Rattle.channel.specs.declared.Inputs.{Inputs}
 use Rattle.rows.specs.Rows.{ok, statusOf, openingStatus, bytesStatus}
@@ -38,29 +40,29 @@ Goes = Moved moves (lineBy bookAccount) booksOf balance Open
 
 -- ---- an accepted command
 
-module _ (s : State) (u : Inputs) (handed : Handed u) (tx : List Op) (d : List ℕ) (h : Open s tx) where
-  sound-after : (i : ℕ) → Cleared (s .core) i d → Sound (changed s u i d)
-  sound-after i e = changed-sound s u i d handed (h .sound) e
+module _ (s : State) (u : Inputs) (handed : Handed u) (tx : List Op) (r : Role) (d : List ℕ) (h : Open s tx) where
+  sound-after : (i : ℕ) → Cleared (s .core) i r d → Sound (changed s u i r d)
+  sound-after i e = changed-sound s u i r d handed (h .sound) e
 
-  commit-booked : booksOf (changed s u commitTransaction d) ≡ balance (booksOf s) tx
+  commit-booked : booksOf (changed s u commitTransaction r d) ≡ balance (booksOf s) tx
   unfolding changed purseAfter journalAfter pick purse.settled purse.resting balance
   commit-booked = λ i. record { value = h .value .value i; allowance = allowance-booked _ tx (h .value) i; log = log-booked _ tx (h .entries) i }
 
-  goes-other : (i : ℕ) → Other i → Cleared (s .core) i d → Goes s tx (changed s u i d) (bookLine i d)
+  goes-other : (i : ℕ) → Other i → Cleared (s .core) i r d → Goes s tx (changed s u i r d) (bookLine i d)
   unfolding changed
   goes-other i o e =
       let p = purse-other i d (s .core .purse) o in
       let j = journal-other i d (s .core .journal) o in
       rw (book-other i d o) (rw (p, j), record { sound = sound-after i e; value = rw p (h .value); entries = rw j (h .entries) })
 
-  goes-changed : (i : ℕ) → Cleared (s .core) i d → Goes s tx (changed s u i d) (bookLine i d)
+  goes-changed : (i : ℕ) → Cleared (s .core) i r d → Goes s tx (changed s u i r d) (bookLine i d)
   unfolding changed purseAfter journalAfter bookLine pick
   goes-changed =
-      by-name (λ i. Cleared (s .core) i d → Goes s tx (changed s u i d) (bookLine i d))
+      by-name (λ i. Cleared (s .core) i r d → Goes s tx (changed s u i r d) (bookLine i d))
       (λ e. (unfold purse.credited in refl, record { sound = sound-after _ e; value = purse-in _ tx (h .value) _; entries = log-in _ tx (h .entries) _ }))
       (λ e. (unfold purse.debited in refl, record { sound = sound-after _ e; value = purse-out _ tx (h .value) _; entries = log-out _ tx (h .entries) _ }))
       (λ e. (unfold purse.rebooked in refl, record { sound = sound-after _ e; value = purse-rebooked _ tx (h .value) _; entries = log-rebooked _ tx (h .entries) _ }))
-      (λ e. (unfold journal.written in refl, record { sound = sound-after _ e; value = purse-entered _ tx (h .value) _ _; entries = log-entered _ tx (h .entries) (h .sound .journal) _ _ (entry-room (s .core) d e) }))
+      (λ e. (unfold journal.written in refl, record { sound = sound-after _ e; value = purse-entered _ tx (h .value) _ _; entries = log-entered _ tx (h .entries) (h .sound .journal) _ _ (entry-room (s .core) r d e) }))
       (λ e. (unfold journal.cleared in refl, record { sound = sound-after _ e; value = purse-cleared _ tx (h .value); entries = log-cleared _ tx (h .entries) }))
       (λ e. (commit-booked, record { sound = sound-after _ e; value = unfold purse.settled in purse-rests _ _; entries = unfold journal.settled in log-rests _ }))
       (λ e. (unfold purse.dropped purse.resting journal.dropped journal.resting in refl, record { sound = sound-after _ e; value = unfold purse.dropped in purse-rests _ _; entries = unfold journal.dropped in log-rests _ }))
@@ -88,7 +90,7 @@ idles s d tx h k p j = (rw (p, j) refl, record { sound = k; value = rw p (h .val
 
 pub goes : (s : State) (tx : List Op) → Open s tx → (e : Event) → Goes s tx (moves s e) (lineBy bookAccount s e)
 unfolding plays lineBy
-goes s tx h (command f u handed) = unfold played in goes-judged s tx h (statusOf (s .core) f) (accepted s u (insOf f) (dataOf f)) _ (λ e. unfold accepted acceptedPlain in goes-changed s u handed tx (plainIn (s .core) f) h (insOf f) (accepted-cleared s f (eq-eqb _ _ e)))
+goes s tx h (command f u handed) = unfold played in goes-judged s tx h (statusOf (s .core) f) (accepted s u (insOf f) (dataOf f)) _ (λ e. unfold accepted acceptedPlain in goes-changed s u handed tx (roleIn (s .core .settings) (dataOf f)) (plainIn (s .core) f) h (insOf f) (accepted-cleared s f (eq-eqb _ _ e)))
 goes s tx h (opens f) = unfold openingPlayed in goes-judged s tx h (openingStatus (s .core) f) (opening s (dataOf f)) _ (λ e. idles s (opening s (dataOf f) .state) tx h (opening-sound s _ (h .sound) (opening-announces (s .core) f e)) (unfold opening in refl) (unfold opening in refl))
 goes s tx h (delivers b) = unfold bytesPlayed in goes-judged s tx h (bytesStatus (s .core .channel .chain) b) (delivered s b) _ (λ e. idles s (delivered s b .state) tx h (delivered-sound s b (h .sound) (carried (s .core .channel .chain) b e)) (unfold delivered in refl) (unfold delivered in refl))
 goes s tx h (session k known) = idles s (withSession s k) tx h (session-sound s k (h .sound) known) (unfold withSession in refl) (unfold withSession in refl)

@@ -10,14 +10,15 @@ use lib.ListN.{length}
 use Rattle.tables.specs.Choice.{pick, passed, pick-cases, none, or-no, and-yes, and-both, and-right}
 use Rattle.tables.specs.Reasons.{no-reason}
 use Rattle.wire.specs.Bytes.{outsideOf}
-use Rattle.datafiles.specs.Files.{sizeOf}
+use Rattle.roles.specs.declared.Role.{Role}
+use Rattle.roles.specs.Roles.{isData, sizeOf}
 use Rattle.chains.specs.declared.Chain.{Chain}
 use Rattle.chains.specs.Chain.{isOpen, announced, nextPlace, completes, shortened, mostBytes, wrongBytes, chainSound}
 use Rattle.channel.specs.declared.Channel.{Channel}
 use Rattle.channel.specs.Channel.{isWaiting, chained, advanced}
-use Rattle.frames.specs.Frame.{insOf, dataOf, fileOf, offsetOf, lengthOf}
-use Rattle.columns.specs.Table.{writeData, authenticateSecond, isData, onFile, suits}
-use Rattle.modes.specs.Modes.{accessFor, plainOf}
+use Rattle.frames.specs.Frame.{insOf, dataOf, offsetOf, lengthOf}
+use Rattle.columns.specs.Table.{writeData, authenticateSecond, onFile, suits}
+use Rattle.modes.specs.Modes.{roleIn, accessFor, plainOf}
 use Rattle.rows.specs.State.{Core, State}
 use Rattle.rows.specs.Rows.{sentOf, lengthCases, unknownCommand, interrupts, otherKindOrNever, parameterCases, rowsFor, ok, openingStatus, commandStatus, bytesRows, bytesStatus}
 use Rattle.rows.specs.Laws.{command-ok, command-clear, known, unbroken, long-enough, inside, write-inside}
@@ -27,10 +28,10 @@ use Rattle.demands.specs.Laws.Sound.{Sound, Fitting, no-chain, counted-f
 
 -- ---- an opening
 
--- of its data field d
-pub record Announced (c : Core) (d : List ℕ) : Type 0 where
-  pub file : isData (fileOf d) ≡ true
-  pub range : offsetOf d + lengthOf d ≤ sizeOf (fileOf d)
+-- of the role r of the file that it names, and of its data field d
+pub record Announced (c : Core) (r : Role) (d : List ℕ) : Type 0 where
+  pub file : isData r ≡ true
+  pub range : offsetOf d + lengthOf d ≤ sizeOf r
   pub some : lengthOf d ≡ 0 → ⊥
   pub ended : isOpen (c .channel .chain) ≡ false
   pub alone : isWaiting (c .channel .stage) ≡ false
@@ -38,25 +39,28 @@ pub record Announced (c : Core) (d : List ℕ) : Type 0 where
 
 -- what each place says of it
 module _ (c : Core) (d : List ℕ) (e : commandStatus true c writeData d ≡ ok) where
-  opened-kind : otherKindOrNever writeData (fileOf d) (accessFor (c .settings) (c .channel .stage) writeData d) ≡ false
+  abbrev role : Role
+  role = roleIn (c .settings) d
+
+  opened-kind : otherKindOrNever writeData role (accessFor (c .settings) (c .channel .stage) writeData d) ≡ false
   unfolding rowsFor
   opened-kind = command-clear true c writeData d e .1 .1 .1 .1 .0
 
-  opened-file : isData (fileOf d) ≡ true
+  opened-file : isData role ≡ true
   unfolding otherKindOrNever onFile suits
-  opened-file = or-false-false _ (not-false _ (or-no (not (suits writeData (fileOf d))) _ opened-kind .0))
+  opened-file = or-false-false _ (not-false _ (or-no (not (suits writeData role)) _ opened-kind .0))
 
   opened-free : ((isWaiting (c .channel .stage) && true) ≡ false) × (isOpen (c .channel .chain) ≡ false)
   unfolding interrupts
   opened-free = or-no (isWaiting (c .channel .stage) && not (eqb writeData authenticateSecond)) _ (unbroken true c writeData d e)
 
-  opened-inside : outsideOf (sizeOf (fileOf d)) (offsetOf d) (lengthOf d) ≡ false
+  opened-inside : outsideOf (sizeOf role) (offsetOf d) (lengthOf d) ≡ false
   unfolding plainOf pick
-  opened-inside = write-inside _ _ _ d (inside true c writeData d e .0)
+  opened-inside = write-inside _ _ _ role d (inside true c writeData d e .0)
 
-  opened-range : ltb (sizeOf (fileOf d)) (offsetOf d + lengthOf d) ≡ false
+  opened-range : ltb (sizeOf role) (offsetOf d + lengthOf d) ≡ false
   unfolding outsideOf
-  opened-range = or-no (leb (sizeOf (fileOf d)) (offsetOf d)) _ opened-inside .1
+  opened-range = or-no (leb (sizeOf role) (offsetOf d)) _ opened-inside .1
 
   opened-some : eqb (lengthOf d) 0 ≡ false
   unfolding rowsFor plainOf pick parameterCases
@@ -66,7 +70,7 @@ module _ (c : Core) (d : List ℕ) (e : commandStatus true c writeData d ≡ ok)
   unfolding plainOf pick lengthCases sentOf
   opened-seven = none (lengthCases true writeData d) (long-enough true c writeData d e .0) .1 .0
 
-  announces : Announced c d
+  announces : Announced c role d
   announces =
       record {
         file = opened-file;
@@ -85,24 +89,26 @@ pub opens-write : (c : Core) (f : List ℕ) → openingStatus c f ≡ ok → ins
 unfolding unknownCommand
 opens-write c f e = eqb-true (insOf f) writeData (not-false _ (known true c (insOf f) (dataOf f) (command-ok true c f e)))
 
-pub opening-announces : (c : Core) (f : List ℕ) → openingStatus c f ≡ ok → Announced c (dataOf f)
+pub opening-announces : (c : Core) (f : List ℕ) → openingStatus c f ≡ ok → Announced c (roleIn (c .settings) (dataOf f)) (dataOf f)
 opening-announces c f e = announces c (dataOf f) (subst (λ (j : ℕ). commandStatus true c j (dataOf f) ≡ ok) (opens-write c f e) (command-ok true c f e))
 
-announced-sound : (c : Core) (d : List ℕ) → Announced c d → chainSound (announced d) ≡ true
+announced-sound : (c : Core) (r : Role) (d : List ℕ) → Announced c r d → chainSound (announced r d) ≡ true
 unfolding chainSound announced
-announced-sound c d h = passed _ _ (ne-eqb _ _ (h .some)) ∙ and-both _ _ (and-both _ _ (h .file) (le-leb _ _ (h .range))) (le-leb (lengthOf d) (lengthOf d) (omega arith))
+announced-sound c r d h = passed _ _ (ne-eqb _ _ (h .some)) ∙ and-both _ _ (and-both _ _ (h .file) (le-leb _ _ (h .range))) (le-leb (lengthOf d) (lengthOf d) (omega arith))
 
 chained-fitting : (k : Channel) (x : Chain) → Fitting k → chainSound x ≡ true → (isOpen x && isWaiting (k .stage)) ≡ false → Fitting (chained k x)
 unfolding chained
 chained-fitting k x h s w = record { known = h .known; secret = h .secret; ti = h .ti; caps = h .caps; chain = s; free = w }
 
-pub opening-sound : (s : State) (d : List ℕ) → Sound s → Announced (s .core) d → Sound (opening s d .state)
+pub opening-sound : (s : State) (d : List ℕ) → Sound s → Announced (s .core) (roleIn (s .core .settings) d) d → Sound (opening s d .state)
 unfolding opening
 opening-sound s d h a =
     record {
       rights = h .rights;
       limits = h .limits;
-      channel = chained-fitting (s .core .channel) (announced d) (h .channel) (announced-sound (s .core) d a) (and-right (isOpen (announced d)) _ (a .alone));
+      above = h .above;
+      twice = h .twice;
+      channel = chained-fitting (s .core .channel) (announced (roleIn (s .core .settings) d) d) (h .channel) (announced-sound (s .core) _ d a) (and-right (isOpen (announced (roleIn (s .core .settings) d) d)) _ (a .alone));
       figures = h .figures;
       journal = h .journal;
       apart = h .apart;
@@ -169,9 +175,11 @@ delivered-sound s b h a =
     record {
       rights = h .rights;
       limits = h .limits;
+      above = h .above;
+      twice = h .twice;
       channel = advanced-fitting (s .core .channel) (length b) (h .channel) (a .opened);
       figures = h .figures;
       journal = h .journal;
       apart = h .apart;
-      files = written-sized (s .files) _ _ b (h .files);
+      files = let k = s .core .channel .chain in written-sized (s .files) (k .file) (nextPlace k) b (h .files);
     }

@@ -10,9 +10,12 @@ use lib.ListN.{length, length-append}
 use Rattle.tables.specs.Choice.{pick, picked, passed, or-none}
 use Rattle.tables.specs.Reasons.{none-first}
 use Rattle.wire.specs.Bytes.{laid, laidIn, word}
-use Rattle.wire.specs.Laws.{laid-room, laid-twice, length-laid}
+use Rattle.wire.specs.Laws.{laid-room, laid-further, length-laid}
+use Rattle.roles.specs.declared.Role.{Role}
+use Rattle.roles.specs.Roles.{isData, sizeOf}
 use Rattle.datafiles.specs.declared.Files.{Files}
-use Rattle.datafiles.specs.Files.{sizeOf, written}
+use Rattle.datafiles.specs.Files.{bytesOf, holding, written}
+use Rattle.datafiles.specs.Laws.{held, held-again, Sized}
 use Rattle.logbook.specs.declared.Log.{Log}
 use Rattle.logbook.specs.Laws as logbook
 use Rattle.chains.specs.declared.Chain.{Chain}
@@ -20,7 +23,7 @@ use Rattle.chains.specs.Chain.{announced, nextPlace, completes, shortened, most
 use Rattle.channel.specs.declared.Channel.{Channel}
 use Rattle.channel.specs.Channel.{chained, advanced}
 use Rattle.frames.specs.Frame.{dataOf}
-use Rattle.columns.specs.Table.{isData}
+use Rattle.modes.specs.Modes.{roleIn}
 use Rattle.rows.specs.Rows.{ok, openingStatus, bytesRows, bytesStatus}
 use Rattle.card.specs.declared.Card.{Card}
 use Rattle.card.specs.View.{view, put}
@@ -31,9 +34,7 @@ use Rattle.demands.specs.Strike.{flat}
 use Rattle.demands.specs.History.{opens, delivers, outcome, next, plays, run, along}
 use Rattle.demands.specs.Demands.{Kept}
 use Rattle.demands.specs.Chains.{FrameSizes, delivery, heard}
-use Rattle.demands.specs.Laws.Sound.{Sized}
 use Rattle.demands.specs.Laws.Chained.{Ranged, ranged}
-use Rattle.demands.specs.Laws.Filed.{by-file}
 use Rattle.demands.specs.Laws.Steps.{sound-view, outcome-plays, next-kept}
 
 -- ---- one event on a card
@@ -55,15 +56,15 @@ given c x =
     }
 
 module _ (c : Card) (h : Kept c) where
-  pub opens-card : (f : List ℕ) → openingStatus (view c .core) f ≡ ok → outcome c (opens f) ≡ record { card = chainOn c (announced (dataOf f)); refusal = 0; stored = 0; out = [] }
+  pub opens-card : (f : List ℕ) → openingStatus (view c .core) f ≡ ok → outcome c (opens f) ≡ record { card = chainOn c (announced (roleIn (c .settings) (dataOf f)) (dataOf f)); refusal = 0; stored = 0; out = [] }
   opens-card f e = outcome-plays c h (opens f) ∙ taken ∙ laid-in
     where
       taken : laidInto c (plays (view c) (opens f)) ≡ laidInto c (opening (view c) (dataOf f))
       taken = unfold plays openingPlayed in sym (judged-accepted c (openingStatus (view c .core) f) (opening (view c) (dataOf f)) e)
 
-      laid-in : laidInto c (opening (view c) (dataOf f)) ≡ record { card = chainOn c (announced (dataOf f)); refusal = 0; stored = 0; out = [] }
+      laid-in : laidInto c (opening (view c) (dataOf f)) ≡ record { card = chainOn c (announced (roleIn (c .settings) (dataOf f)) (dataOf f)); refusal = 0; stored = 0; out = [] }
       laid-in = unfold laidInto opening put view chainOn in
-          ap (λ (l : Log). record { card = record { settings = c .settings; keys = c .keys; files = c .files; purse = c .purse; log = l; channel = chained (c .channel) (announced (dataOf f)) }; refusal = 0; stored = 0; out = [] }) (logbook.put-view (c .log))
+          ap (λ (l : Log). record { card = record { settings = c .settings; keys = c .keys; files = c .files; purse = c .purse; log = l; channel = chained (c .channel) (announced (roleIn (c .settings) (dataOf f)) (dataOf f)) }; refusal = 0; stored = 0; out = [] }) (logbook.put-view (c .log))
 
   pub delivers-card : (b : List ℕ) → bytesStatus (c .channel .chain) b ≡ ok
       → outcome c (delivers b) ≡ record { card = given c b; refusal = 0; stored = 0; out = pick (completes (c .channel .chain) (length b)) (word ok) [] }
@@ -118,16 +119,14 @@ laid-again b at x y r =
     let l = length-append x y in
     let e : laidIn b at x ≡ laid b at x = laid-room b at x (omega arith) in
     let n = length-laid b at x (omega arith) in
-    ap (λ (z : List ℕ). laidIn z (at + length x) y) e ∙ laid-room (laid b at x) (at + length x) y (omega arith) ∙ laid-twice b at x y (omega arith) ∙ sym (laid-room b at (x ++ y) (omega arith))
+    ap (λ (z : List ℕ). laidIn z (at + length x) y) e ∙ laid-room (laid b at x) (at + length x) y (omega arith) ∙ laid-further b at x y ∙ sym (laid-room b at (x ++ y) (omega arith))
 
-written-again : (f : Files) → Sized f → (at : ℕ) (x y : List ℕ) (n : ℕ) → isData n ≡ true → at + (length x + length y) ≤ sizeOf n
-    → written (written f n at x) n (at + length x) y ≡ written f n at (x ++ y)
-unfolding written sizeOf pick
-written-again f h at x y =
-    by-file (λ n. at + (length x + length y) ≤ sizeOf n → written (written f n at x) n (at + length x) y ≡ written f n at (x ++ y))
-    (λ r. ap (λ (b : List ℕ). record { f00 = b; f04 = f .f04; f1f = f .f1f }) (laid-again (f .f00) at x y (omega (arith, h .f00))))
-    (λ r. ap (λ (b : List ℕ). record { f00 = f .f00; f04 = b; f1f = f .f1f }) (laid-again (f .f04) at x y (omega (arith, h .f04))))
-    (λ r. ap (λ (b : List ℕ). record { f00 = f .f00; f04 = f .f04; f1f = b }) (laid-again (f .f1f) at x y (omega (arith, h .f1f))))
+written-again : (f : Files) → Sized f → (at : ℕ) (x y : List ℕ) (r : Role) → isData r ≡ true → at + (length x + length y) ≤ sizeOf r
+    → written (written f r at x) r (at + length x) y ≡ written f r at (x ++ y)
+written-again f h at x y r t z =
+    ap (λ (b : List ℕ). holding (written f r at x) r (laidIn b (at + length x) y)) (held f _ r t)
+    ∙ held-again f _ _ r
+    ∙ ap (holding f r) (laid-again (bytesOf f r) at x y (omega (arith, h r)))
 
 -- what the standing rules say of an open chain on a card
 pub chain-ranged : (c : Card) → Kept c → 1 ≤ c .channel .chain .left → Ranged (c .channel .chain)

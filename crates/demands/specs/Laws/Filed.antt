@@ -1,18 +1,22 @@
 -- A card's data files are all accepted writes in order.
 use Prim.Native.Nat.{ℕ, _+_, _≤_}
-use mathlib.Core.Bool.{Bool, true, false, _||_, false≢true}
+use mathlib.Core.Bool.{Bool, true, false}
 use mathlib.Core.List.{List, [], _∷_}
-use mathlib.Core.Path.{_≡_, refl, sym, _∙_, ap, subst}
+use mathlib.Core.Path.{_≡_, refl, _∙_, ap, subst}
 use native.Mathlib.Omega.{arith}
 use borrow.Author.Tests.{eqb-true, eq-eqb}
 use lib.Dec.{eqb}
 use lib.ListN.{length}
 use Rattle.tables.specs.Choice.{pick}
 use Rattle.wire.specs.Laws.{laid-room}
+use Rattle.roles.specs.declared.Role.{Role}
+use Rattle.roles.specs.Roles.{sizeOf}
 use Rattle.datafiles.specs.declared.Files.{Files}
 use Rattle.datafiles.specs.Files as files
-use Rattle.frames.specs.Frame.{insOf, dataOf, fileOf, offsetOf, bytesIn}
-use Rattle.columns.specs.Table.{writeData, isData}
+use Rattle.datafiles.specs.Laws.{Sized}
+use Rattle.frames.specs.Frame.{insOf, dataOf, offsetOf, bytesIn}
+use Rattle.columns.specs.Table.{writeData}
+use Rattle.modes.specs.Modes.{roleIn}
 use Rattle.rows.specs.State.{State}
 use Rattle.rows.specs.Rows.{ok, statusOf, openingStatus, bytesStatus}
 use Rattle.effects.specs.Effects.{filesAfter}
@@ -20,38 +24,15 @@ use Rattle.card.specs.Events.{changed, ended, Played, refused, acceptedPlain, a
 use Rattle.demands.specs.Strike.{Line, posted, broken, idle, posts, through}
 use Rattle.demands.specs.DataFiles.{Write, stored}
 use Rattle.demands.specs.History.{Event, command, opens, delivers, session, power, plays, run, along, fileLine, plainIn, writeOf, fileAccount, lineBy}
-use Rattle.demands.specs.Laws.Sound.{Sound, Sized}
+use Rattle.demands.specs.Laws.Sound.{Sound}
 use Rattle.demands.specs.Laws.Steps.{accepted-cleared, moves, moves-sound}
 use Rattle.demands.specs.Laws.Inside.{Cleared, write-room}
 use Rattle.demands.specs.Laws.Chained.{carried, ranged, bytes-room}
 
--- what holds of the three files' numbers
-pub by-file : (P : ℕ → Type 0) → P 0x00 → P 0x04 → P 0x1F → (n : ℕ) → isData n ≡ true → P n
-by-file P p q r n = at-00 (eqb n 0x00) refl
-  where
-    is : (k : ℕ) → P k → eqb n k ≡ true → P n
-    is k p e = subst P (sym (eqb-true n k e)) p
-
-    at-1f : (b : Bool) → eqb n 0x1F ≡ b → b ≡ true → P n
-    at-1f true e t = is 0x1F r e
-    at-1f false e t = absurd (false≢true t)
-
-    at-04 : (b : Bool) → eqb n 0x04 ≡ b → (b || eqb n 0x1F) ≡ true → P n
-    at-04 true e t = is 0x04 q e
-    at-04 false e t = at-1f (eqb n 0x1F) refl t
-
-    at-00 : (b : Bool) → eqb n 0x00 ≡ b → ((b || eqb n 0x04) || eqb n 0x1F) ≡ true → P n
-    at-00 true e t = is 0x00 p e
-    at-00 false e t = at-04 (eqb n 0x04) refl t
-
-module _ (f : Files) (h : Sized f) (at : ℕ) (x : List ℕ) where
-  pub written-stored : (n : ℕ) → isData n ≡ true → at + length x ≤ files.sizeOf n → files.written f n at x ≡ stored f (record { file = n; place = at; bytes = x })
-  unfolding files.written files.sizeOf stored pick
-  written-stored =
-      by-file (λ n. at + length x ≤ files.sizeOf n → files.written f n at x ≡ stored f (record { file = n; place = at; bytes = x }))
-      (λ r. ap (λ (b : List ℕ). record { f00 = b; f04 = f .f04; f1f = f .f1f }) (laid-room (f .f00) at x (omega (arith, h .f00))))
-      (λ r. ap (λ (b : List ℕ). record { f00 = f .f00; f04 = b; f1f = f .f1f }) (laid-room (f .f04) at x (omega (arith, h .f04))))
-      (λ r. ap (λ (b : List ℕ). record { f00 = f .f00; f04 = f .f04; f1f = b }) (laid-room (f .f1f) at x (omega (arith, h .f1f))))
+-- a write that has room is laid over its file
+pub written-stored : (f : Files) → Sized f → (at : ℕ) (x : List ℕ) (r : Role) → at + length x ≤ sizeOf r → files.written f r at x ≡ stored f (record { file = r; place = at; bytes = x })
+unfolding stored
+written-stored f h at x r z = ap (files.holding f r) (laid-room (files.bytesOf f r) at x (omega (arith, h r)))
 
 -- ---- one event
 
@@ -59,18 +40,18 @@ module _ (f : Files) (h : Sized f) (at : ℕ) (x : List ℕ) where
 abbrev Stores : Files → Line Write → Files → Type 0
 Stores f l g = (ls : List (Line Write)) → through stored g (posts ls) ≡ through stored f (posts (l ∷ ls))
 
-stores-write : (s : State) → Sound s → (d : List ℕ) → Cleared (s .core) writeData d
-    → Stores (s .files) (posted (record { file = fileOf d; place = offsetOf d; bytes = bytesIn d })) (files.written (s .files) (fileOf d) (offsetOf d) (bytesIn d))
+stores-write : (s : State) → Sound s → (r : Role) (d : List ℕ) → Cleared (s .core) writeData r d
+    → Stores (s .files) (posted (record { file = r; place = offsetOf d; bytes = bytesIn d })) (files.written (s .files) r (offsetOf d) (bytesIn d))
 unfolding posts through
-stores-write s h d e ls = ap (λ (x : Files). through stored x (posts ls)) (written-stored (s .files) (h .files) (offsetOf d) (bytesIn d) (fileOf d) (e .file refl) (write-room (s .core) d e))
+stores-write s h r d e ls = ap (λ (x : Files). through stored x (posts ls)) (written-stored (s .files) (h .files) (offsetOf d) (bytesIn d) r (write-room (s .core) r d e))
 
-stores-changed : (s : State) → Sound s → (i : ℕ) (d : List ℕ) → Cleared (s .core) i d → Stores (s .files) (fileLine i d) (filesAfter i d (s .files))
+stores-changed : (s : State) → Sound s → (i : ℕ) (r : Role) (d : List ℕ) → Cleared (s .core) i r d → Stores (s .files) (fileLine i r d) (filesAfter i r d (s .files))
 unfolding fileLine filesAfter
-stores-changed s h i d e = by (eqb i writeData) refl
+stores-changed s h i r d e = by (eqb i writeData) refl
   where
     by : (b : Bool) → eqb i writeData ≡ b
-        → Stores (s .files) (pick b (posted (record { file = fileOf d; place = offsetOf d; bytes = bytesIn d })) idle) (pick b (files.written (s .files) (fileOf d) (offsetOf d) (bytesIn d)) (s .files))
-    by true q = unfold pick in stores-write s h d (subst (λ (k : ℕ). Cleared (s .core) k d) (eqb-true i writeData q) e)
+        → Stores (s .files) (pick b (posted (record { file = r; place = offsetOf d; bytes = bytesIn d })) idle) (pick b (files.written (s .files) r (offsetOf d) (bytesIn d)) (s .files))
+    by true q = unfold pick in stores-write s h r d (subst (λ (k : ℕ). Cleared (s .core) k r d) (eqb-true i writeData q) e)
     by false q = unfold pick posts through in λ ls. refl
 
 -- by its status, where the accepted event has the line l
@@ -89,11 +70,11 @@ stores-bytes s h b e ls =
     let k = s .core .channel .chain in
     let c = carried k b e in
     let r = ranged k (h .channel .chain) (c .opened) in
-    ap (λ (x : Files). through stored x (posts ls)) (written-stored (s .files) (h .files) _ b (k .file) (r .file) (bytes-room k (length b) r c))
+    ap (λ (x : Files). through stored x (posts ls)) (written-stored (s .files) (h .files) _ b (k .file) (bytes-room k (length b) r c))
 
 stores : (s : State) → Sound s → (e : Event) → Stores (s .files) (lineBy fileAccount s e) (moves s e .files)
 unfolding plays lineBy
-stores s h (command f u handed) = unfold played in stores-judged s (statusOf (s .core) f) (accepted s u (insOf f) (dataOf f)) _ (λ e. unfold accepted acceptedPlain changed in stores-changed s h (insOf f) (plainIn (s .core) f) (accepted-cleared s f (eq-eqb _ _ e)))
+stores s h (command f u handed) = unfold played in stores-judged s (statusOf (s .core) f) (accepted s u (insOf f) (dataOf f)) _ (λ e. unfold accepted acceptedPlain changed in stores-changed s h (insOf f) (roleIn (s .core .settings) (dataOf f)) (plainIn (s .core) f) (accepted-cleared s f (eq-eqb _ _ e)))
 stores s h (opens f) = unfold openingPlayed in stores-judged s (openingStatus (s .core) f) (opening s (dataOf f)) _ (λ e. unfold opening posts in λ ls. refl)
 stores s h (delivers b) = unfold bytesPlayed in stores-judged s (bytesStatus (s .core .channel .chain) b) (delivered s b) _ (stores-bytes s h b)
 stores s h (session k known) = unfold withSession posts in λ ls. refl

@@ -19,7 +19,7 @@ use Rattle.handshake.specs.Handshake.{rotated, firstReply, broughtA, secondRepl
 use Rattle.authentication.specs.Authentication.{partKey, firstShown, secondShown}
 use Rattle.columns.specs.Table.{authenticateSecond}
 use Rattle.rows.specs.State.{State}
-use Rattle.modes.specs.Modes.{plainOf}
+use Rattle.modes.specs.Modes.{roleIn, plainOf}
 use Rattle.rows.specs.Rows.{macedIn, wrongLength, ok, commandStatus}
 use Rattle.rows.specs.Laws.{inside, long-enough, second-length}
 use Rattle.card.specs.Accepted.{baseShown, shown-small}
@@ -58,7 +58,7 @@ second-shown ks c d h e = replied-length (partKey ks c) (c .ti) (c .caps) _ (h .
 
 -- x is the data field as sent, k the channel after
 pub reply-room : (s : State) (u : Inputs) → Handed u → (i : ℕ) (x : List ℕ) (k : Channel) → Sound s → commandStatus false (s .core) i x ≡ ok
-    → length (shown s u i (plainOf (macedIn (s .core) i x) x) ++ macBehind (macedIn (s .core) i x) k (shown s u i (plainOf (macedIn (s .core) i x) x))) ≤ 256
+    → length (shown s u i (roleIn (s .core .settings) x) (plainOf (macedIn (s .core) i x) x) ++ macBehind (macedIn (s .core) i x) k (shown s u i (roleIn (s .core .settings) x) (plainOf (macedIn (s .core) i x) x))) ≤ 256
 unfolding shown
 reply-room s u handed i x k h e =
     let m = macedIn (s .core) i x in
@@ -69,4 +69,4 @@ reply-room s u handed i x k h e =
     pick-cases Small _ _ _ (λ t. small (firstShown (s .core .keys) u d) (omega (arith, most, first-length (s .core .keys) u d handed)))
     (λ _. pick-cases Small _ _ _
     (λ t. small (secondShown (s .core .keys) (s .core .channel) d) (omega (arith, most, second-shown (s .core .keys) (s .core .channel) d (h .channel) (second-length false d (subst (λ (j : ℕ). wrongLength false j d ≡ false) (eqb-true i authenticateSecond t) (long-enough false (s .core) i x e .0))))))
-    (λ _. small (baseShown s i d) (shown-small m s i d (h .journal) (inside false (s .core) i x e))))
+    (λ _. small (baseShown s i (roleIn (s .core .settings) x) d) (shown-small m s i (roleIn (s .core .settings) x) d (h .journal) (inside false (s .core) i x e))))

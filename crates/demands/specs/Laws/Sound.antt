@@ -1,16 +1,17 @@
 -- The standing rules of a state, with the sizes of its files and entries, and that every step keeps them.
-use Prim.Native.Nat.{ℕ, _+_}
+use Prim.Native.Nat.{ℕ}
 use mathlib.Core.Bool.{Bool, true, false, _&&_, or-true}
 use mathlib.Core.List.{List, [], _∷_}
 use mathlib.Core.Path.{_≡_, refl, subst, _∙_}
-use borrow.Author.Tests.{not-false, leb-true, eqb-true}
+use borrow.Author.Tests.{not-false, eqb-true}
 use lib.Dec.{leb}
 use lib.ListN.{length, drop}
 use Rattle.tables.specs.Choice.{pick, pick-both, pick-cases}
-use Rattle.wire.specs.Bytes.{laid, laidIn}
-use Rattle.wire.specs.Laws.{length-laid}
+use Rattle.wire.specs.Laws.{length-laidIn}
+use Rattle.roles.specs.declared.Role.{Role}
 use Rattle.datafiles.specs.declared.Files.{Files}
 use Rattle.datafiles.specs.Files as files
+use Rattle.datafiles.specs.Laws.{Sized, sized-holding}
 use Rattle.limits.specs.declared.Limits.{Limits}
 use Rattle.limits.specs.Limits.{crossed}
 use Rattle.purse.specs.declared.Purse.{Purse}
@@ -33,8 +34,9 @@ use Rattle.derivation.specs.Derivation.{macKey}
 use Rattle.handshake.specs.Handshake.{capsOf}
 use Rattle.authentication.specs.Authentication.{begun, opened}
 use Rattle.access.specs.Rights.{sessionSound}
+use Rattle.frames.specs.Frame.{offsetOf, bytesIn}
 use Rattle.columns.specs.Table.{writeRecord, authenticateFirst}
-use Rattle.settings.specs.Settings.{rightsBroken}
+use Rattle.settings.specs.Settings.{rightsBroken, numberAbove, numberTwice}
 use Rattle.rows.specs.State.{Core, State, logPending}
 use Rattle.rows.specs.Rows.{switchedOff}
 use Rattle.rows.specs.Laws.{credit-inside, debit-inside, rebook-inside}
@@ -43,11 +45,6 @@ use Rattle.card.specs.Events.{channelAfter, changed, ended, withSession}
 use Rattle.demands.specs.History.{Handed}
 use Rattle.demands.specs.Laws.Names.{by-name, purse-other, journal-other}
 use Rattle.demands.specs.Laws.Inside.{Cleared, key-named}
-
-pub record Sized (f : Files) : Type 0 where
-  pub f00 : length (f .f00) ≡ 256
-  pub f04 : length (f .f04) ≡ 256
-  pub f1f : length (f .f1f) ≡ 32
 
 -- the key of a session is 0 to 4, its bytes have their sizes, and an open chain lies inside its file, with no first part waiting
 pub record Fitting (k : Channel) : Type 0 where
@@ -65,6 +62,8 @@ both j = journal.some (j .fresh) && j .clears
 pub record Sound (s : State) : Type 0 where
   pub rights : rightsBroken (s .core .settings) ≡ false
   pub limits : crossed (s .core .settings .limits) ≡ false
+  pub above : numberAbove (s .core .settings) ≡ false
+  pub twice : numberTwice (s .core .settings) ≡ false
   pub channel : Fitting (s .core .channel)
   pub figures : rules-laws.Sound (s .core .settings .limits) (s .core .purse) (logPending (s .core .journal))
   pub journal : Fit (s .core .journal)
@@ -77,15 +76,15 @@ pub record Sound (s : State) : Type 0 where
 log-pends : {l : Limits} {p : Purse} {b : Bool} → rules-laws.Sound l p b → rules-laws.Sound l p true
 log-pends {l} {p} h = record { value = h .value; pending = h .pending; allowance = h .allowance; left = h .left; debits = h .debits; noted = h .noted; equal = rw (or-true (p .moved)) }
 
-module _ (c : Core) (d : List ℕ) where
-  figures-kept : rules-laws.Sound (c .settings .limits) (c .purse) (logPending (c .journal)) → (i : ℕ) → Cleared c i d
+module _ (c : Core) (r : Role) (d : List ℕ) where
+  figures-kept : rules-laws.Sound (c .settings .limits) (c .purse) (logPending (c .journal)) → (i : ℕ) → Cleared c i r d
       → rules-laws.Sound (c .settings .limits) (purseAfter i d (c .purse)) (logPending (journalAfter i d (c .journal)))
   unfolding purseAfter journalAfter pick logPending journal.written journal.cleared journal.some
   figures-kept h =
-      by-name (λ i. Cleared c i d → rules-laws.Sound (c .settings .limits) (purseAfter i d (c .purse)) (logPending (journalAfter i d (c .journal))))
-      (λ e. rules-laws.credited-sound _ h _ (credit-inside _ _ _ d (e .inside)))
-      (λ e. rules-laws.debited-sound _ h _ (debit-inside _ _ _ d (e .inside)))
-      (λ e. rules-laws.rebooked-sound _ h _ (not-false _ (rebook-inside _ _ _ d (e .inside) .0)))
+      by-name (λ i. Cleared c i r d → rules-laws.Sound (c .settings .limits) (purseAfter i d (c .purse)) (logPending (journalAfter i d (c .journal))))
+      (λ e. rules-laws.credited-sound _ h _ (credit-inside _ _ _ r d (e .inside)))
+      (λ e. rules-laws.debited-sound _ h _ (debit-inside _ _ _ r d (e .inside)))
+      (λ e. rules-laws.rebooked-sound _ h _ (not-false _ (rebook-inside _ _ _ r d (e .inside) .0)))
       (λ e. log-pends h)
       (λ e. log-pends h)
       (λ e. rules-laws.settled-sound _ h)
@@ -98,31 +97,23 @@ module _ (c : Core) (d : List ℕ) where
       by-name (λ i. Fit (journalAfter i d (c .journal))) h h h (fit-written _ _ _ h) (fit-cleared _ h) (fit-settled _ h) (fit-dropped _ h)
       (λ i o. rw (journal-other i d (c .journal) o) h)
 
-  no-clear-pending : Cleared c writeRecord d → c .journal .clears ≡ false
+  no-clear-pending : Cleared c writeRecord r d → c .journal .clears ≡ false
   unfolding switchedOff
   no-clear-pending e = e .on
 
-  apart-kept : both (c .journal) ≡ false → (i : ℕ) → Cleared c i d → both (journalAfter i d (c .journal)) ≡ false
+  apart-kept : both (c .journal) ≡ false → (i : ℕ) → Cleared c i r d → both (journalAfter i d (c .journal)) ≡ false
   unfolding journalAfter pick journal.written journal.cleared journal.settled journal.dropped journal.resting journal.some
   apart-kept h =
-      by-name (λ i. Cleared c i d → both (journalAfter i d (c .journal)) ≡ false)
+      by-name (λ i. Cleared c i r d → both (journalAfter i d (c .journal)) ≡ false)
       (λ e. h) (λ e. h) (λ e. h) no-clear-pending (λ e. refl) (λ e. refl) (λ e. refl)
       (λ i o e. rw (journal-other i d (c .journal) o) h)
 
-length-laidIn : (b : List ℕ) (at : ℕ) (x : List ℕ) → length (laidIn b at x) ≡ length b
-unfolding laidIn
-length-laidIn b at x = pick-cases (λ (y : List ℕ). length y ≡ length b) (leb (at + length x) (length b)) (laid b at x) b (λ t. length-laid b at x (leb-true (at + length x) (length b) t)) (λ t. refl)
+pub written-sized : (f : Files) (r : Role) (at : ℕ) (x : List ℕ) → Sized f → Sized (files.written f r at x)
+written-sized f r at x h = sized-holding f r _ h (length-laidIn (files.bytesOf f r) at x ∙ h r)
 
-pub written-sized : (f : Files) (n at : ℕ) (x : List ℕ) → Sized f → Sized (files.written f n at x)
-unfolding files.written
-written-sized f n at x h =
-    pick-both Sized _ _ _ (record { f00 = length-laidIn (f .f00) at x ∙ h .f00; f04 = h .f04; f1f = h .f1f })
-    (pick-both Sized _ _ _ (record { f00 = h .f00; f04 = length-laidIn (f .f04) at x ∙ h .f04; f1f = h .f1f })
-    (record { f00 = h .f00; f04 = h .f04; f1f = length-laidIn (f .f1f) at x ∙ h .f1f }))
-
-files-kept : (f : Files) (i : ℕ) (d : List ℕ) → Sized f → Sized (filesAfter i d f)
+files-kept : (f : Files) (i : ℕ) (r : Role) (d : List ℕ) → Sized f → Sized (filesAfter i r d f)
 unfolding filesAfter
-files-kept f i d h = pick-both Sized _ _ _ (written-sized f _ _ _ h) h
+files-kept f i r d h = pick-both Sized _ _ _ (written-sized f r (offsetOf d) (bytesIn d) h) h
 
 -- ---- the channel
 
@@ -161,11 +152,11 @@ unfolding counted
 counted-fitting k h =
     record { known = counted-sound (k .stage) (h .known); secret = h .secret; ti = h .ti; caps = h .caps; chain = h .chain; free = rw (counted-waits (k .stage)) (h .free) }
 
-channel-kept : (c : Core) (u : Inputs) (i : ℕ) (d : List ℕ) → Handed u → Fitting (c .channel) → Cleared c i d → Fitting (channelAfter (c .keys) u i d (c .channel))
+channel-kept : (c : Core) (u : Inputs) (i : ℕ) (r : Role) (d : List ℕ) → Handed u → Fitting (c .channel) → Cleared c i r d → Fitting (channelAfter (c .keys) u i d (c .channel))
 unfolding channelAfter
-channel-kept c u i d handed h e =
+channel-kept c u i r d handed h e =
     pick-cases Fitting _ _ _
-    (λ t. unfold begun capsOf in record { known = key-named c d (subst (λ (j : ℕ). Cleared c j d) (eqb-true i authenticateFirst t) e); secret = handed .random; ti = handed .ti; caps = length-filled 6 (drop 2 d); chain = no-chain; free = unfold unchained in refl })
+    (λ t. unfold begun capsOf in record { known = key-named c r d (subst (λ (j : ℕ). Cleared c j r d) (eqb-true i authenticateFirst t) e); secret = handed .random; ti = handed .ti; caps = length-filled 6 (drop 2 d); chain = no-chain; free = unfold unchained in refl })
     (λ _. pick-cases Fitting _ _ _
     (λ t. unfold opened macKey in record { known = key-sound (c .channel .stage) (h .known); secret = length-cmac _ _; ti = h .ti; caps = refl; chain = no-chain; free = unfold unchained in refl })
     (λ _. counted-fitting (c .channel) h))
@@ -179,17 +170,19 @@ fresh-sized e (f ∷ fs) l (h, hs) = h
 
 -- ---- the steps
 
-pub changed-sound : (s : State) (u : Inputs) (i : ℕ) (d : List ℕ) → Handed u → Sound s → Cleared (s .core) i d → Sound (changed s u i d)
+pub changed-sound : (s : State) (u : Inputs) (i : ℕ) (r : Role) (d : List ℕ) → Handed u → Sound s → Cleared (s .core) i r d → Sound (changed s u i r d)
 unfolding changed
-changed-sound s u i d handed h e =
+changed-sound s u i r d handed h e =
     record {
       rights = h .rights;
       limits = h .limits;
-      channel = channel-kept (s .core) u i d handed (h .channel) e;
-      figures = figures-kept (s .core) d (h .figures) i e;
-      journal = journal-kept (s .core) d (h .journal) i;
-      apart = apart-kept (s .core) d (h .apart) i e;
-      files = files-kept (s .files) i d (h .files);
+      above = h .above;
+      twice = h .twice;
+      channel = channel-kept (s .core) u i r d handed (h .channel) e;
+      figures = figures-kept (s .core) r d (h .figures) i e;
+      journal = journal-kept (s .core) r d (h .journal) i;
+      apart = apart-kept (s .core) r d (h .apart) i e;
+      files = files-kept (s .files) i r d (h .files);
     }
 
 pub ended-sound : (s : State) → Sound s → Sound (ended s)
@@ -198,6 +191,8 @@ ended-sound s h =
     record {
       rights = h .rights;
       limits = h .limits;
+      above = h .above;
+      twice = h .twice;
       channel = bare-fitting Closed refl;
       figures = rules-laws.dropped-sound _ (h .figures);
       journal = fit-dropped _ (h .journal);
@@ -207,4 +202,4 @@ ended-sound s h =
 
 pub session-sound : (s : State) (k : Session) → Sound s → sessionSound k ≡ true → Sound (withSession s k)
 unfolding withSession
-session-sound s k h e = record { rights = h .rights; limits = h .limits; channel = bare-fitting (stageOf k) (bench-sound k e); figures = h .figures; journal = h .journal; apart = h .apart; files = h .files }
+session-sound s k h e = record { rights = h .rights; limits = h .limits; above = h .above; twice = h .twice; channel = bare-fitting (stageOf k) (bench-sound k e); figures = h .figures; journal = h .journal; apart = h .apart; files = h .files }

@@ -16,6 +16,7 @@ use Rattle.logbook.specs.View as log
 use Rattle.logbook.specs.Laws as logbook
 use Rattle.logbook.specs.Entries.{length-round}
 use Rattle.logbook.specs.FitLaws.{fit-view}
+use Rattle.modes.specs.Modes.{roleIn}
 use Rattle.rows.specs.State.{State, logPending}
 use Rattle.rows.specs.Rows.{ok, statusOf, openingStatus, bytesStatus}
 use Rattle.rows.specs.Laws.{command-ok}
@@ -23,8 +24,8 @@ use Rattle.card.specs.declared.Card.{Card}
 use Rattle.card.specs.View.{view, put}
 use Rattle.standing.specs.Parts.{logBroken, chainBroken, log-few, log-placed, log-apart, parted, joined}
 use Rattle.card.specs.Outcome.{Outcome}
-use Rattle.card.specs.Events.{Played, refused, acceptedPlain, accepted, judged, played, laidInto, opening, openingPlayed, chainOpened, delivered, bytesPlayed, bytesSent, sessionChanged, poweredUp}
-use Rattle.commands.specs.PlacesLaws.{pending-view}
+use Rattle.card.specs.Events.{Played, refused, acceptedPlain, accepted, judged, played, laidInto, opening, openingPlayed, chainOpened, delivered, bytesPlayed, bytesSent, sessionChanged, poweredUp, replyRoom}
+use Rattle.rows.specs.Laws.{pending-view}
 use Rattle.card.specs.Laws.{log-unbroken, bench-plays, command-plays}
 use Rattle.demands.specs.History.{Handed, Event, command, opens, delivers, session, power, outcome, next, plays, run, along, plainIn}
 use Rattle.demands.specs.Demands.{Kept}
@@ -48,15 +49,18 @@ pub sound-view : (c : Card) → Kept c → Sound (view c)
 unfolding view log.view logBroken chainBroken
 sound-view c h =
     let n = parted (c .settings) (c .purse) (c .log) (c .channel .stage) (c .channel .chain) (h .rules) in
-    let chain = or-no _ _ (n .1 .1 .1 .1 .1 .0) in
+    let w = n .1 .1 .1 .1 in
+    let chain = or-no _ _ (w .1 .1 .1 .0) in
     record {
       rights = n .0;
       limits = n .1 .0;
-      channel = record { known = not-false _ (n .1 .1 .0); secret = h .secret; ti = h .ti; caps = h .caps; chain = not-false _ (chain .0); free = chain .1 };
-      figures = rw (pending-view (c .log)) (rules-laws.sound (n .1 .1 .1 .1 .0));
-      journal = fit-view (c .log) (log-few (c .log) (n .1 .1 .1 .0)) (h .slots) (h .entry);
-      apart = rw (some-view (c .log)) (log-apart (c .log) (n .1 .1 .1 .0));
-      files = record { f00 = h .f00; f04 = h .f04; f1f = h .f1f };
+      above = n .1 .1 .0;
+      twice = n .1 .1 .1 .0;
+      channel = record { known = not-false _ (w .0); secret = h .secret; ti = h .ti; caps = h .caps; chain = not-false _ (chain .0); free = chain .1 };
+      figures = rw (pending-view (c .log)) (rules-laws.sound (w .1 .1 .0));
+      journal = fit-view (c .log) (log-few (c .log) (w .1 .0)) (h .slots) (h .entry);
+      apart = rw (some-view (c .log)) (log-apart (c .log) (w .1 .0));
+      files = h .files;
     }
 
 -- a place that turns stays one of four
@@ -71,10 +75,8 @@ unfolding put log.put logBroken logPending chainBroken
 put-kept c n s k h =
     let placed = turned-four n (c .log .place) (log-placed (c .log) (log-unbroken c (k .rules))) in
     record {
-      rules = joined _ _ _ _ _ (h .rights, (h .limits, (not-no _ (h .channel .known), (or-none _ _ (or-none _ _ (le-ltb 4 (length (s .core .journal .entries)) (h .journal .few)) (not-no _ (lt-ltb _ _ placed))) (h .apart), (rules-laws.unbroken (h .figures), (or-none _ _ (not-no _ (h .channel .chain)) (h .channel .free), tt))))));
-      f00 = h .files .f00;
-      f04 = h .files .f04;
-      f1f = h .files .f1f;
+      rules = joined _ _ _ _ _ (h .rights, (h .limits, (h .above, (h .twice, (not-no _ (h .channel .known), (or-none _ _ (or-none _ _ (le-ltb 4 (length (s .core .journal .entries)) (h .journal .few)) (not-no _ (lt-ltb _ _ placed))) (h .apart), (rules-laws.unbroken (h .figures), (or-none _ _ (not-no _ (h .channel .chain)) (h .channel .free), tt))))))));
+      files = h .files;
       slots = length-round (c .log .slots) (log.turned n (c .log .place)) (s .core .journal .entries) (h .journal .sized) (k .slots);
       entry = fresh-sized (c .log .entry) (s .core .journal .fresh) (k .entry) (h .journal .fresh-sized);
       secret = h .channel .secret;
@@ -93,14 +95,14 @@ moves s e = plays s e .state
 
 pub outcome-plays : (c : Card) → Kept c → (e : Event) → outcome c e ≡ laidInto c (plays (view c) e)
 unfolding outcome plays sessionChanged poweredUp
-outcome-plays c h (command f u handed) = sym (command-plays c f u 258 (omega arith) (h .rules))
-outcome-plays c h (opens f) = unfold chainOpened in sym (bench-plays c 258 _ (omega arith) (h .rules))
-outcome-plays c h (delivers b) = unfold bytesSent in sym (bench-plays c 258 _ (omega arith) (h .rules))
+outcome-plays c h (command f u handed) = sym (command-plays c f u replyRoom (omega arith) (h .rules))
+outcome-plays c h (opens f) = unfold chainOpened in sym (bench-plays c replyRoom _ (omega arith) (h .rules))
+outcome-plays c h (delivers b) = unfold bytesSent in sym (bench-plays c replyRoom _ (omega arith) (h .rules))
 outcome-plays c h (session k known) = passed _ _ (not-no _ known) ∙ passed _ _ (h .rules)
 outcome-plays c h power = passed _ _ (h .rules)
 
 -- the data field of an accepted frame
-pub accepted-cleared : (s : State) (f : List ℕ) → eqb (statusOf (s .core) f) ok ≡ true → Cleared (s .core) (insOf f) (plainIn (s .core) f)
+pub accepted-cleared : (s : State) (f : List ℕ) → eqb (statusOf (s .core) f) ok ≡ true → Cleared (s .core) (insOf f) (roleIn (s .core .settings) (dataOf f)) (plainIn (s .core) f)
 accepted-cleared s f e = cleared (s .core) (insOf f) (dataOf f) (command-ok false (s .core) f (eqb-true _ _ e))
 
 -- by its status
@@ -110,7 +112,7 @@ judged-sound s status p h go = pick-cases (λ (q : Played). Sound (q .state)) (e
 
 played-sound : (s : State) (f : List ℕ) (u : Inputs) → Handed u → Sound s → Sound (played s u f .state)
 unfolding played accepted acceptedPlain
-played-sound s f u handed h = judged-sound s (statusOf (s .core) f) _ h (λ e. changed-sound s u _ _ handed h (accepted-cleared s f (eq-eqb _ _ e)))
+played-sound s f u handed h = judged-sound s (statusOf (s .core) f) _ h (λ e. changed-sound s u _ _ _ handed h (accepted-cleared s f (eq-eqb _ _ e)))
 
 pub moves-sound : (s : State) (e : Event) → Sound s → Sound (moves s e)
 unfolding plays

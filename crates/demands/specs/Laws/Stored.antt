@@ -16,7 +16,7 @@ use Rattle.effects.specs.Effects.{journalAfter, storedAfter}
 use Rattle.card.specs.declared.Card.{Card}
 use Rattle.card.specs.View.{view, put, broken}
 use Rattle.card.specs.Outcome.{Outcome, bench}
-use Rattle.card.specs.Events.{Played, changed, ended, refused, acceptedPlain, accepted, judged, played, laidInto, benchRefusal, benched, commanded, opening, openingPlayed, chainOpened, delivered, bytesPlayed, bytesSent, withSession, sessionChanged, poweredUp}
+use Rattle.card.specs.Events.{Played, changed, ended, refused, acceptedPlain, accepted, judged, played, laidInto, benchRefusal, benched, commanded, opening, openingPlayed, chainOpened, delivered, bytesPlayed, bytesSent, withSession, sessionChanged, poweredUp, replyRoom}
 use Rattle.demands.specs.History.{Event, command, opens, delivers, session, power, outcome, next, plays, plainIn}
 use Rattle.demands.specs.Demands.{Kept}
 use Rattle.demands.specs.Ring.{storedAt, placeOf}
@@ -77,8 +77,8 @@ module _ (c : Card) where
   unfolding laidInto put log.put
   laid-turned p = refl
 
-  benched-turned : (p : Played) → Turned c (benched c 258 p)
-  benched-turned p = pick-both (Turned c) (eqb (benchRefusal (broken c) 258) 0) (laidInto c p) (bench c (benchRefusal (broken c) 258)) (laid-turned p) (bench-turned (benchRefusal (broken c) 258))
+  benched-turned : (p : Played) → Turned c (benched c replyRoom p)
+  benched-turned p = pick-both (Turned c) (eqb (benchRefusal (broken c) replyRoom) 0) (laidInto c p) (bench c (benchRefusal (broken c) replyRoom)) (laid-turned p) (bench-turned (benchRefusal (broken c) replyRoom))
 
   unless-broken : (p : Played) → Turned c (pick (broken c) (bench c 6) (laidInto c p))
   unless-broken p = pick-both (Turned c) (broken c) (bench c 6) (laidInto c p) (bench-turned 6) (laid-turned p)

@@ -16,6 +16,7 @@ use Rattle.logbook.specs.Journal as journal
 use Rattle.logbook.specs.View as log
 use Rattle.frames.specs.Frame.{insOf, dataOf}
 use Rattle.channel.specs.declared.Inputs.{Inputs}
+use Rattle.modes.specs.Modes.{roleIn}
 use Rattle.rows.specs.Rows.{macedIn, rowsFor, ok, statusFor, statusOf, openingStatus, bytesRows, bytesStatus}
 use Rattle.rows.specs.Laws.{command-ok}
 use Rattle.card.specs.declared.Card.{Card}
@@ -23,7 +24,7 @@ use Rattle.card.specs.declared.Reply.{Reply}
 use Rattle.card.specs.View.{view, put, broken}
 use Rattle.card.specs.Outcome.{replyOf, Answered, bench}
 use Rattle.chains.specs.Chain.{completes}
-use Rattle.card.specs.Events.{changed, shown, macBehind, acceptedStatus, ended, Played, refused, acceptedPlain, accepted, judged, played, laidInto, benchRefusal, benched, commanded, opening, openingPlayed, chainOpened, delivered, bytesPlayed, bytesSent}
+use Rattle.card.specs.Events.{changed, shown, macBehind, acceptedStatus, ended, Played, refused, acceptedPlain, accepted, judged, played, laidInto, benchRefusal, benched, commanded, opening, openingPlayed, chainOpened, delivered, bytesPlayed, bytesSent, replyRoom}
 use Rattle.card.specs.Laws.{answered-as, refused-bench, bench-plays}
 use Rattle.demands.specs.History.{Handed, plainIn, booksOf}
 use Rattle.demands.specs.Demands.{Kept, statuses, Refusal, among, Untouched, Replied, Silent, Demand1, Demand1Chain}
@@ -94,10 +95,10 @@ module _ (c : Card) (before after : List ℕ) (r : Reply) where
       by false e = unfold pick in denied
 
   -- with room for a reply there is no bench refusal, and without it the card and the buffer stay
-  played-there : Kept c → (p : Played) → 258 ≤ length before → Answered (benched c (length before) p) before after r → Answered (laidInto c p) before after r
+  played-there : Kept c → (p : Played) → replyRoom ≤ length before → Answered (benched c (length before) p) before after r → Answered (laidInto c p) before after r
   played-there h p room a = answered-as _ _ before after r (sym (bench-plays c (length before) p room (h .rules))) a
 
-  pub short-same : (p : Played) → length before < 258 → Answered (benched c (length before) p) before after r → (r .card ≡ c) × (after ≡ before)
+  pub short-same : (p : Played) → length before < replyRoom → Answered (benched c (length before) p) before after r → (r .card ≡ c) × (after ≡ before)
   unfolding replyOf bench
   short-same p less a =
       let five : 5 ≡ benchRefusal (broken c) (length before) = unfold benchRefusal in sym (picked _ _ (lt-ltb _ _ less)) in
@@ -110,8 +111,8 @@ module _ (c : Card) (f : List ℕ) (u : Inputs) (handed : Handed u) (before afte
   accepted-replied : statusOf (view c .core) f ≡ ok → Answered (laidInto c (accepted (view c) u (insOf f) (dataOf f))) before after r → Replied c before after r
   unfolding laidInto accepted acceptedPlain replyOf
   accepted-replied e (q, b) =
-      let y = shown (view c) u (insOf f) (plainIn (view c .core) f) in
-      let k = changed (view c) u (insOf f) (plainIn (view c .core) f) .core .channel in
+      let y = shown (view c) u (insOf f) (roleIn (view c .core .settings) (dataOf f)) (plainIn (view c .core) f) in
+      let k = changed (view c) u (insOf f) (roleIn (view c .core .settings) (dataOf f)) (plainIn (view c .core) f) .core .channel in
       let x = y ++ macBehind (macedIn (view c .core) (insOf f) (dataOf f)) k y in
       let w = word (acceptedStatus (insOf f)) in
       let t = append-assoc y (macBehind (macedIn (view c .core) (insOf f) (dataOf f)) k y) w in
@@ -128,7 +129,7 @@ module _ (c : Card) (f : List ℕ) (u : Inputs) (handed : Handed u) (before afte
         refused = λ n. absurd (accepted-status (insOf f) n);
       }
 
-  replied : Answered (commanded c f u (length before)) before after r → 258 ≤ length before → Replied c before after r
+  replied : Answered (commanded c f u (length before)) before after r → replyRoom ≤ length before → Replied c before after r
   unfolding commanded played
   replied a room =
       judged-replied c before after r _ (statusOf (view c .core) f) (accepted (view c) u (insOf f) (dataOf f)) accepted-replied (refused-replied c before after r h (statusOf (view c .core) f) (status-listed false c f)) (played-there c before after r h (played (view c) u f) room a)

@@ -38,14 +38,14 @@ lines-view a c h es = along-views (λ c e. lineBy a (view c) e) (lineBy a) (λ c
 
 -- ---- settings and keys stay
 
-abbrev Fixed : State → State → Type 0
+abbrev pub Fixed : State → State → Type 0
 Fixed s t = (t .core .settings ≡ s .core .settings) × (t .core .keys ≡ s .core .keys)
 
 fixed-judged : (s : State) (status : ℕ) (p : Played) → Fixed s (p .state) → Fixed s (judged status s p .state)
 unfolding refused ended
 fixed-judged s status p h = pick-both (λ (q : Played). Fixed s (q .state)) (eqb status ok) _ _ h (refl, refl)
 
-fixed-moves : (s : State) (e : Event) → Fixed s (moves s e)
+pub fixed-moves : (s : State) (e : Event) → Fixed s (moves s e)
 unfolding plays
 fixed-moves s (command f u handed) = unfold played in fixed-judged s (statusOf (s .core) f) (accepted s u (insOf f) (dataOf f)) (unfold accepted acceptedPlain changed in (refl, refl))
 fixed-moves s (opens f) = unfold openingPlayed in fixed-judged s (openingStatus (s .core) f) (opening s (dataOf f)) (unfold opening in (refl, refl))

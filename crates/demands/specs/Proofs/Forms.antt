@@ -36,7 +36,7 @@ moved-unbroken : (c : FormerCard) (s : State) → Sound s → wasBroken (moved c
 unfolding wasBroken moved former.moved logBroken logPending chainBroken
 moved-unbroken c s h =
     joined _ _ _ _ _
-    (h .rights, (h .limits, (not-no _ (h .channel .known), (or-none _ _ (or-none _ _ (le-ltb 4 (length (s .core .journal .entries)) (h .journal .few)) refl) (h .apart), (rules-laws.unbroken (h .figures), (or-none _ _ (not-no _ (h .channel .chain)) (h .channel .free), tt))))))
+    (h .rights, (h .limits, (h .above, (h .twice, (not-no _ (h .channel .known), (or-none _ _ (or-none _ _ (le-ltb 4 (length (s .core .journal .entries)) (h .journal .few)) refl) (h .apart), (rules-laws.unbroken (h .figures), (or-none _ _ (not-no _ (h .channel .chain)) (h .channel .free), tt))))))))
 
 record Was (c : FormerCard) : Type 0 where
   pub rules : wasBroken c ≡ false

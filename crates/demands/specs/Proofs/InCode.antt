@@ -19,7 +19,7 @@ use Rattle.card.specs.declared.Card.{Card}
 use Rattle.card.specs.declared.Reply.{Reply}
 use Rattle.card.specs.View.{view}
 use Rattle.card.specs.Outcome.{Outcome, replyOf, Answered, bench}
-use Rattle.card.specs.Events.{Played, played, laidInto, benched, commanded, chainOpened, bytesSent, sessionChanged, poweredUp, issued, personalised}
+use Rattle.card.specs.Events.{Played, played, laidInto, benched, commanded, chainOpened, bytesSent, sessionChanged, poweredUp, issued, personalised, replyRoom}
 use Rattle.card.specs.Laws.{answered-as, bench-plays, session-unknown}
 use Rattle.demands.specs.History.{Event, command, opens, delivers, session, power, outcome, next, plays, Said, said, run, along}
 use Rattle.demands.specs.Demands.{Kept, Taken, Unrefused, InCode}
@@ -29,8 +29,8 @@ use Rattle.demands.specs.Laws.Issued.{issued-kept}
 use Rattle.demands.specs.Proofs.Demand1.{short-same, opening-replies, frame-replies}
 
 -- the room of the buffer shows in no outcome, once there is room
-same-room : (c : Card) → Kept c → (p : Played) (room : ℕ) → 258 ≤ room → benched c room p ≡ benched c 258 p
-same-room c h p room k = sym (bench-plays c room p k (h .rules)) ∙ bench-plays c 258 p (omega arith) (h .rules)
+same-room : (c : Card) → Kept c → (p : Played) (room : ℕ) → replyRoom ≤ room → benched c room p ≡ benched c replyRoom p
+same-room c h p room k = sym (bench-plays c room p k (h .rules)) ∙ bench-plays c replyRoom p (omega arith) (h .rules)
 
 -- what was laid at the front of a buffer is read there
 read-front : (b x : List ℕ) → take (length x) (laid b 0 x) ≡ x
@@ -152,8 +152,8 @@ seen-as c d e es x y ss q h = subst (λ (z : Said). Ran d c (e ∷ es) (z ∷ ss
 pub runs : (c : Card) → Kept c → (es : List Event) → Ran (run next c es) c es (along next said c es)
 unfolding run along outcome replyOf
 runs c h [] = done
-runs c h (command f u handed ∷ es) = seen-as c _ _ es _ _ _ (event-seen c (command f u handed) (replicate 258 0)) (commands f u handed (replicate 258 0) _ (replyOf (commanded c f u 258)) (omega arith) (refl, refl) (runs (next c (command f u handed)) (next-kept c h (command f u handed)) es))
-runs c h (opens f ∷ es) = seen-as c _ _ es _ _ _ (event-seen c (opens f) (replicate 258 0)) (openings f (replicate 258 0) _ (replyOf (chainOpened c f 258)) (omega arith) (refl, refl) (runs (next c (opens f)) (next-kept c h (opens f)) es))
-runs c h (delivers x ∷ es) = seen-as c _ _ es _ _ _ (event-seen c (delivers x) (replicate 258 0)) (frames x (replicate 258 0) _ (replyOf (bytesSent c x 258)) (omega arith) (refl, refl) (runs (next c (delivers x)) (next-kept c h (delivers x)) es))
+runs c h (command f u handed ∷ es) = seen-as c _ _ es _ _ _ (event-seen c (command f u handed) (replicate replyRoom 0)) (commands f u handed (replicate replyRoom 0) _ (replyOf (commanded c f u replyRoom)) (omega arith) (refl, refl) (runs (next c (command f u handed)) (next-kept c h (command f u handed)) es))
+runs c h (opens f ∷ es) = seen-as c _ _ es _ _ _ (event-seen c (opens f) (replicate replyRoom 0)) (openings f (replicate replyRoom 0) _ (replyOf (chainOpened c f replyRoom)) (omega arith) (refl, refl) (runs (next c (opens f)) (next-kept c h (opens f)) es))
+runs c h (delivers x ∷ es) = seen-as c _ _ es _ _ _ (event-seen c (delivers x) (replicate replyRoom 0)) (frames x (replicate replyRoom 0) _ (replyOf (bytesSent c x replyRoom)) (omega arith) (refl, refl) (runs (next c (delivers x)) (next-kept c h (delivers x)) es))
 runs c h (session k known ∷ es) = seen-as c _ _ es _ _ _ (session-silent c h k known) (changes k known (replyOf (sessionChanged c k)) refl (runs (next c (session k known)) (next-kept c h (session k known)) es))
 runs c h (power ∷ es) = seen-as c _ _ es _ _ _ (power-silent c h) (powers (replyOf (poweredUp c)) refl (runs (next c power) (next-kept c h power) es))

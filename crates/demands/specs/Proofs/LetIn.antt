@@ -27,14 +27,14 @@ use Rattle.authentication.specs.Authentication.{begun, firstShown, opened, seco
 use Rattle.frames.specs.Frame.{insOf, dataOf, lrpIn, wrongSize, wrongClass, wrongParameters, wrongFrame}
 use Rattle.columns.specs.Table.{authenticateFirst, authenticateSecond, onFile, namesFile}
 use Rattle.rows.specs.State.{Core, State}
-use Rattle.modes.specs.Modes.{plainOf}
+use Rattle.modes.specs.Modes.{roleIn, plainOf}
 use Rattle.rows.specs.Rows.{unknownCommand, interrupts, lengthCases, wrongLength, lacksMac, unknownFile, otherKindOrNever, notGranted, partFails, forged, usedUp, switchedOff, parameterCases, badParameter, ranged, amountCases, outside, longRead, nothingPending, macedIn, rowsFor, ok, statusFor, statusOf}
 use Rattle.rows.specs.Laws.{first-plain, second-plain}
 use Rattle.effects.specs.Effects.{storedAfter}
 use Rattle.card.specs.declared.Card.{Card}
 use Rattle.card.specs.View.{view, put}
 use Rattle.card.specs.Outcome.{Outcome}
-use Rattle.card.specs.Events.{channelAfter, changed, shown, macBehind, acceptedStatus, acceptedPlain, accepted, laidInto}
+use Rattle.card.specs.Events.{channelAfter, changed, shown, macBehind, acceptedStatus, acceptedPlain, accepted, laidInto, replyRoom}
 use Rattle.card.specs.Laws.{command-plays, plays-accepted}
 use Rattle.till.specs.Till.{firstFrame, learntB, secondPart, secondFrame, repliedTi}
 use Rattle.till.specs.Meets.{learns, brings, passes, tells, knows}
@@ -78,13 +78,13 @@ module _ (c : Core) (f d : List ℕ) where
 
 -- what it leaves, where it carries no MAC
 part-plays : (s : State) (u : Inputs) (f : List ℕ) (i : ℕ) (d : List ℕ) → Sent f i d → macedIn (s .core) i d ≡ false
-    → accepted s u (insOf f) (dataOf f) ≡ record { state = changed s u i d; stored = storedAfter i (s .core .journal); out = shown s u i d ++ word (acceptedStatus i) }
+    → accepted s u (insOf f) (dataOf f) ≡ record { state = changed s u i (roleIn (s .core .settings) d) d; stored = storedAfter i (s .core .journal); out = shown s u i (roleIn (s .core .settings) d) d ++ word (acceptedStatus i) }
 unfolding accepted acceptedPlain macBehind plainOf pick
 part-plays s u f i d h m = rw (h .ins, h .field, m) refl
 
 part-sends : (c : Card) → Kept c → (u : Inputs) (f : List ℕ) (i : ℕ) (d : List ℕ) → Sent f i d → macedIn (view c .core) i d ≡ false → statusOf (view c .core) f ≡ ok
-    → sends c f u ≡ laidInto c (record { state = changed (view c) u i d; stored = storedAfter i (view c .core .journal); out = shown (view c) u i d ++ word (acceptedStatus i) })
-part-sends c h u f i d s m e = sym (command-plays c f u 258 (omega arith) (h .rules)) ∙ sym (plays-accepted c f u e) ∙ ap (laidInto c) (part-plays (view c) u f i d s m)
+    → sends c f u ≡ laidInto c (record { state = changed (view c) u i (roleIn (view c .core .settings) d) d; stored = storedAfter i (view c .core .journal); out = shown (view c) u i (roleIn (view c .core .settings) d) d ++ word (acceptedStatus i) })
+part-sends c h u f i d s m e = sym (command-plays c f u replyRoom (omega arith) (h .rules)) ∙ sym (plays-accepted c f u e) ∙ ap (laidInto c) (part-plays (view c) u f i d s m)
 
 -- ---- the exchange
 
@@ -113,7 +113,7 @@ module _ (c : Card) (h : Kept c) (w : isWaiting (c .channel .stage) ≡ false) (
   ok₁ : statusOf (view c .core) (firstFrame k caps) ≡ ok
   ok₁ = first-clear (view c .core) (firstFrame k caps) d₁ sent₁ (unfold view in w) (unfold view in z) long₁ bad₁
 
-  o₁ : sends c (firstFrame k caps) u ≡ laidInto c (record { state = changed (view c) u authenticateFirst d₁; stored = storedAfter authenticateFirst (view c .core .journal); out = shown (view c) u authenticateFirst d₁ ++ word (acceptedStatus authenticateFirst) })
+  o₁ : sends c (firstFrame k caps) u ≡ laidInto c (record { state = changed (view c) u authenticateFirst (roleIn (view c .core .settings) d₁) d₁; stored = storedAfter authenticateFirst (view c .core .journal); out = shown (view c) u authenticateFirst (roleIn (view c .core .settings) d₁) d₁ ++ word (acceptedStatus authenticateFirst) })
   o₁ = part-sends c h u (firstFrame k caps) authenticateFirst d₁ sent₁ (first-plain (view c .core) d₁) ok₁
 
   abbrev c₁ : Card
@@ -186,7 +186,7 @@ module _ (c : Card) (h : Kept c) (w : isWaiting (c .channel .stage) ≡ false) (
   ok₂ : statusOf (view c₁ .core) (secondFrame d₂) ≡ ok
   ok₂ = second-clear (view c₁ .core) (secondFrame d₂) d₂ sent₂ (unfold view in waits) (unfold view in unchained₁) long₂ (unfold view in not-failed (c₁ .keys) (c₁ .channel) d₂ keys₁ channel₁ second-sent)
 
-  o₂ : sends c₁ (secondFrame d₂) u′ ≡ laidInto c₁ (record { state = changed (view c₁) u′ authenticateSecond d₂; stored = storedAfter authenticateSecond (view c₁ .core .journal); out = shown (view c₁) u′ authenticateSecond d₂ ++ word (acceptedStatus authenticateSecond) })
+  o₂ : sends c₁ (secondFrame d₂) u′ ≡ laidInto c₁ (record { state = changed (view c₁) u′ authenticateSecond (roleIn (view c₁ .core .settings) d₂) d₂; stored = storedAfter authenticateSecond (view c₁ .core .journal); out = shown (view c₁) u′ authenticateSecond (roleIn (view c₁ .core .settings) d₂) d₂ ++ word (acceptedStatus authenticateSecond) })
   o₂ = part-sends c₁ kept₁ u′ (secondFrame d₂) authenticateSecond d₂ sent₂ (second-plain (view c₁ .core) d₂) ok₂
 
   second-accepted : sends c₁ (secondFrame d₂) u′ .out ≡ r ++ word 0x9100

@@ -5,16 +5,18 @@ use mathlib.Core.List.{List, [], _∷_, append-nil}
 use mathlib.Core.Path.{_≡_, refl, sym, ap, subst, _∙_}
 use native.Mathlib.Omega.{arith}
 use lib.ListN.{length, take, take-append-drop}
-use Rattle.tables.specs.Choice.{pick}
 use Rattle.wire.specs.Bytes.{laid, laidIn}
 use Rattle.wire.specs.Laws.{laid-room}
+use Rattle.roles.specs.declared.Role.{Role}
+use Rattle.roles.specs.Roles.{isData, sizeOf}
 use Rattle.datafiles.specs.declared.Files.{Files}
-use Rattle.datafiles.specs.Files.{sizeOf, bytesOf, written}
+use Rattle.datafiles.specs.Files.{bytesOf, holding, written}
+use Rattle.datafiles.specs.Laws.{held, held-already, held-elsewhere, Sized}
 use Rattle.chains.specs.Chain.{unchained, announced}
 use Rattle.channel.specs.declared.Channel.{Channel}
 use Rattle.channel.specs.Channel.{bare, chained}
-use Rattle.frames.specs.Frame.{dataOf, fileOf, offsetOf, lengthOf}
-use Rattle.columns.specs.Table.{isData}
+use Rattle.frames.specs.Frame.{dataOf, offsetOf, lengthOf}
+use Rattle.modes.specs.Modes.{roleIn}
 use Rattle.rows.specs.Rows.{ok, statusOf, openingStatus, bytesStatus}
 use Rattle.card.specs.declared.Card.{Card}
 use Rattle.card.specs.View.{view, put}
@@ -26,14 +28,12 @@ use Rattle.demands.specs.Strike.{flat}
 use Rattle.demands.specs.History.{Event, command, opens, delivers, session, power, next, plays, run, booksOf}
 use Rattle.demands.specs.Demands.{Kept}
 use Rattle.demands.specs.Chains.{FrameSizes, delivery, Ends, Torn, Tears}
-use Rattle.demands.specs.Laws.Sound.{Sized}
 use Rattle.demands.specs.Laws.Chained.{Announced, opening-announces}
-use Rattle.demands.specs.Laws.Filed.{by-file}
 use Rattle.demands.specs.Laws.Steps.{sound-view, view-next, outcome-plays, next-kept, run-kept}
 use Rattle.demands.specs.Laws.Delivery.{chainOn, given, opens-card, runs-given}
 use Rattle.demands.specs.Proofs.Demand1.{ended-untouched}
 
--- ---- a write, by its file and by the others
+-- ---- a write, by its file
 
 nothing-laid : (b : List ℕ) (at : ℕ) → at ≤ length b → laidIn b at [] ≡ b
 nothing-laid b at h = laid-room b at [] (omega arith) ∙ none
@@ -41,30 +41,12 @@ nothing-laid b at h = laid-room b at [] (omega arith) ∙ none
     none : laid b at [] ≡ b
     none = unfold laid in let e : at + 0 ≡ at = omega arith in rw (e, append-nil (take at b)) (take-append-drop at b)
 
-module _ (f : Files) (h : Sized f) (at : ℕ) where
-  nothing-written : (n : ℕ) → isData n ≡ true → at ≤ sizeOf n → written f n at [] ≡ f
-  unfolding written sizeOf pick
-  nothing-written =
-      by-file (λ n. at ≤ sizeOf n → written f n at [] ≡ f)
-      (λ r. ap (λ (b : List ℕ). record { f00 = b; f04 = f .f04; f1f = f .f1f }) (nothing-laid (f .f00) at (omega (arith, h .f00))))
-      (λ r. ap (λ (b : List ℕ). record { f00 = f .f00; f04 = b; f1f = f .f1f }) (nothing-laid (f .f04) at (omega (arith, h .f04))))
-      (λ r. ap (λ (b : List ℕ). record { f00 = f .f00; f04 = f .f04; f1f = b }) (nothing-laid (f .f1f) at (omega (arith, h .f1f))))
+module _ (f : Files) (h : Sized f) (at : ℕ) (r : Role) where
+  nothing-written : at ≤ sizeOf r → written f r at [] ≡ f
+  nothing-written z = ap (holding f r) (nothing-laid (bytesOf f r) at (omega (arith, h r))) ∙ held-already f r
 
-  written-there : (x : List ℕ) (n : ℕ) → isData n ≡ true → at + length x ≤ sizeOf n → bytesOf (written f n at x) n ≡ laid (bytesOf f n) at x
-  unfolding written sizeOf bytesOf pick
-  written-there x =
-      by-file (λ n. at + length x ≤ sizeOf n → bytesOf (written f n at x) n ≡ laid (bytesOf f n) at x)
-      (λ r. laid-room (f .f00) at x (omega (arith, h .f00)))
-      (λ r. laid-room (f .f04) at x (omega (arith, h .f04)))
-      (λ r. laid-room (f .f1f) at x (omega (arith, h .f1f)))
-
-elsewhere : (f : Files) (at : ℕ) (x : List ℕ) (n : ℕ) → isData n ≡ true → (m : ℕ) → isData m ≡ true → (m ≡ n → ⊥) → bytesOf (written f n at x) m ≡ bytesOf f m
-unfolding written bytesOf pick
-elsewhere f at x =
-    by-file (λ n. (m : ℕ) → isData m ≡ true → (m ≡ n → ⊥) → bytesOf (written f n at x) m ≡ bytesOf f m)
-    (by-file (λ m. (m ≡ 0x00 → ⊥) → bytesOf (written f 0x00 at x) m ≡ bytesOf f m) (λ d. absurd (d refl)) (λ d. refl) (λ d. refl))
-    (by-file (λ m. (m ≡ 0x04 → ⊥) → bytesOf (written f 0x04 at x) m ≡ bytesOf f m) (λ d. refl) (λ d. absurd (d refl)) (λ d. refl))
-    (by-file (λ m. (m ≡ 0x1F → ⊥) → bytesOf (written f 0x1F at x) m ≡ bytesOf f m) (λ d. refl) (λ d. refl) (λ d. absurd (d refl)))
+  written-there : (x : List ℕ) → isData r ≡ true → at + length x ≤ sizeOf r → bytesOf (written f r at x) r ≡ laid (bytesOf f r) at x
+  written-there x t z = held f _ r t ∙ laid-room (bytesOf f r) at x (omega (arith, h r))
 
 -- ---- an end
 
@@ -104,32 +86,37 @@ module _ (c : Card) (h : Kept c) (f : List ℕ) (e : openingStatus (view c .core
   abbrev d : List ℕ
   d = dataOf f
 
-  known : Announced (view c .core) d
+  -- the role of the file that it names
+  abbrev r : Role
+  r = roleIn (c .settings) d
+
+  known : Announced (view c .core) r d
+  unfolding view
   known = opening-announces (view c .core) f e
 
-  opened : next c (opens f) ≡ chainOn c (announced d)
+  opened : next c (opens f) ≡ chainOn c (announced r d)
   opened = ap (λ (o : Outcome). o .card) (opens-card c h f e)
 
   -- what has changed by then
   pub record Midway (k : Card) (bs : List (List ℕ)) : Type 0 where
-    pub files : k .files ≡ written (c .files) (fileOf d) (offsetOf d) (flat bs)
+    pub files : k .files ≡ written (c .files) r (offsetOf d) (flat bs)
     pub books : booksOf (view k) ≡ booksOf (view c)
 
-  opened-midway : Midway (chainOn c (announced d)) []
+  opened-midway : Midway (chainOn c (announced r d)) []
   unfolding chainOn flat view
   opened-midway =
       record {
-        files = sym (nothing-written (c .files) (sound-view c h .files) (offsetOf d) (fileOf d) (known .file) (omega (arith, known .range)));
+        files = sym (nothing-written (c .files) (sound-view c h .files) (offsetOf d) r (omega (arith, known .range)));
         books = refl;
       }
 
-  given-midway : (bs : List (List ℕ)) → Midway (given (chainOn c (announced d)) (flat bs)) bs
+  given-midway : (bs : List (List ℕ)) → Midway (given (chainOn c (announced r d)) (flat bs)) bs
   unfolding given chainOn chained announced view
   given-midway bs =
       let at : offsetOf d + (lengthOf d - lengthOf d) ≡ offsetOf d = omega arith in
-      record { files = ap (λ (n : ℕ). written (c .files) (fileOf d) n (flat bs)) at; books = refl }
+      record { files = ap (λ (n : ℕ). written (c .files) r n (flat bs)) at; books = refl }
 
-  all-left : chainOn c (announced d) .channel .chain .left ≡ lengthOf d
+  all-left : chainOn c (announced r d) .channel .chain .left ≡ lengthOf d
   unfolding chainOn chained announced
   all-left = refl
 
@@ -138,20 +125,20 @@ module _ (c : Card) (h : Kept c) (f : List ℕ) (e : openingStatus (view c .core
   midway [] z fits = subst (λ (k : Card). Midway k []) (sym opened) opened-midway
   midway (b ∷ bs) z fits =
       let kept = subst (λ (q : Card). Kept q) opened (next-kept c h (opens f)) in
-      let g = runs-given (chainOn c (announced d)) kept b bs z (omega (arith, all-left, fits)) in
+      let g = runs-given (chainOn c (announced r d)) kept b bs z (omega (arith, all-left, fits)) in
       subst (λ (q : Card). Midway (run next q (delivery (b ∷ bs))) (b ∷ bs)) (sym opened) (subst (λ (q : Card). Midway q (b ∷ bs)) (sym g) (given-midway (b ∷ bs)))
 
   torn-at : (bs : List (List ℕ)) → FrameSizes bs → length (flat bs) ≤ lengthOf d → (x : Event) → Ends (run next c (opens f ∷ delivery bs)) x
-      → Torn c d bs (next (run next c (opens f ∷ delivery bs)) x)
+      → Torn c r d bs (next (run next c (opens f ∷ delivery bs)) x)
   torn-at bs z fits x n =
       let a = known in
       let k = run next c (opens f ∷ delivery bs) in
       let s = stays k (run-kept c h (opens f ∷ delivery bs)) x n in
       let m = midway bs z fits in
-      let files : next k x .files ≡ written (c .files) (fileOf d) (offsetOf d) (flat bs) = s .files ∙ m .files in
+      let files : next k x .files ≡ written (c .files) r (offsetOf d) (flat bs) = s .files ∙ m .files in
       record {
-        file = ap (λ (q : Files). bytesOf q (fileOf d)) files ∙ written-there (c .files) (unfold view in sound-view c h .files) (offsetOf d) (flat bs) (fileOf d) (a .file) (omega (arith, a .range));
-        others = λ i t q. ap (λ (w : Files). bytesOf w i) files ∙ elsewhere (c .files) (offsetOf d) (flat bs) (fileOf d) (a .file) i t q;
+        file = ap (λ (q : Files). bytesOf q r) files ∙ written-there (c .files) (unfold view in sound-view c h .files) (offsetOf d) r (flat bs) (a .file) (omega (arith, a .range));
+        others = λ i t q. ap (λ (w : Files). bytesOf w i) files ∙ held-elsewhere (c .files) _ r (a .file) i t q;
         books = s .books ∙ m .books;
         chain = s .chain;
       }

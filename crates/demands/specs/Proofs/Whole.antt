@@ -12,6 +12,9 @@ use Rattle.tables.specs.Choice.{pick, picked, none, or-no, or-none, and-yes}
 use Rattle.tables.specs.Reasons.{none-first}
 use Rattle.wire.specs.Bytes.{le3, word}
 use Rattle.wire.specs.Laws.{length-part}
+use Rattle.roles.specs.declared.Role.{Role}
+use Rattle.roles.specs.Roles.{isFile}
+use Rattle.roles.specs.Laws.{no-file}
 use Rattle.datafiles.specs.Files.{written}
 use Rattle.logbook.specs.Laws as logbook
 use Rattle.chains.specs.declared.Chain.{Chain}
@@ -19,9 +22,11 @@ use Rattle.chains.specs.Chain.{unchained, isOpen, announced, completes, shorten
 use Rattle.channel.specs.declared.Channel.{Channel}
 use Rattle.channel.specs.declared.Inputs.{Inputs}
 use Rattle.channel.specs.Channel.{counted, chained, advanced}
-use Rattle.frames.specs.Frame.{insOf, dataOf, fileOf, offsetOf, lengthOf, bytesIn}
+use Rattle.frames.specs.Frame.{insOf, dataOf, offsetOf, lengthOf, bytesIn}
 use Rattle.columns.specs.Table.{writeData}
-use Rattle.modes.specs.Modes.{accessFor, macedUnder, plainOf}
+use Rattle.settings.specs.declared.Settings.{Settings}
+use Rattle.modes.specs.Modes.{roleIn, accessFor, plainOf}
+use Rattle.modes.specs.Laws.{role-first}
 use Rattle.rows.specs.State.{Core}
 use Rattle.rows.specs.Rows.{unknownCommand, sentOf, lengthCases, wrongLength, lacksMac, unknownFile, otherKindOrNever, notGranted, partFails, forged, usedUp, parameterCases, badParameter, ranged, roomOf, outside, longRead, rowsFor, ok, statusFor, macedIn, statusOf, openingStatus, commandStatus}
 use Rattle.rows.specs.Laws.{command-ok, command-clear, no-chain}
@@ -30,7 +35,7 @@ use Rattle.replies.specs.Replies.{shownOf}
 use Rattle.card.specs.declared.Card.{Card}
 use Rattle.card.specs.View.{view, put}
 use Rattle.card.specs.Outcome.{Outcome}
-use Rattle.card.specs.Events.{channelAfter, changed, shown, macBehind, acceptedStatus, acceptedPlain, accepted, laidInto}
+use Rattle.card.specs.Events.{channelAfter, changed, shown, macBehind, acceptedStatus, acceptedPlain, accepted, laidInto, replyRoom}
 use Rattle.card.specs.Laws.{command-plays, plays-accepted}
 use Rattle.demands.specs.Strike.{flat}
 use Rattle.demands.specs.History.{opens, outcome, next, run, along}
@@ -49,11 +54,14 @@ module _ (d : List ℕ) (long : 7 ≤ length d) where
   abbrev seven : List ℕ
   seven = take 7 d
 
+  seven-long : length seven ≡ 7
+  seven-long = length-take-le 7 d long
+
   byte : (n : ℕ) → n < 7 → getD seven n 0 ≡ getD d n 0
   byte n h = getD-take 7 d n 0 h
 
-  same-file : fileOf seven ≡ fileOf d
-  same-file = byte 0 (omega arith)
+  same-role : (s : Settings) → roleIn s seven ≡ roleIn s d
+  same-role s = role-first s seven d (omega (arith, seven-long)) (omega arith) (byte 0 (omega arith))
 
   same-offset : offsetOf seven ≡ offsetOf d
   unfolding le3
@@ -63,15 +71,8 @@ module _ (d : List ℕ) (long : 7 ≤ length d) where
   unfolding le3
   same-length = rw (byte 4 (omega arith), byte 5 (omega arith), byte 6 (omega arith)) refl
 
-  seven-long : length seven ≡ 7
-  seven-long = length-take-le 7 d long
-
   same-mode : (c : Core) → macedIn c writeData seven ≡ macedIn c writeData d
-  unfolding macedUnder
-  same-mode c =
-      let a : eqb (length seven) 0 ≡ false = ap (λ (n : ℕ). eqb n 0) seven-long in
-      let b : eqb (length d) 0 ≡ false = ne-eqb (length d) 0 (λ z. omega (arith, long, z)) in
-      rw (a, b, same-file) refl
+  same-mode c = rw (same-role (c .settings)) refl
 
 module _ (c : Core) (d : List ℕ) (plain : macedIn c writeData d ≡ false) (e : commandStatus false c writeData d ≡ ok) where
   long-field : (length d ≡ lengthOf d + 7) × (lengthOf d ≡ 0 → ⊥)
@@ -88,12 +89,15 @@ module _ (c : Core) (d : List ℕ) (plain : macedIn c writeData d ≡ false) (e 
   at-least : 7 ≤ length d
   at-least = omega (arith, long-field .0)
 
-  file-there : (unknownFile writeData (fileOf s) ≡ false) × (otherKindOrNever writeData (fileOf s) (accessFor (c .settings) (c .channel .stage) writeData s) ≡ false)
+  abbrev role : Role
+  role = roleIn (c .settings) s
+
+  file-there : (unknownFile writeData role ≡ false) × (otherKindOrNever writeData role (accessFor (c .settings) (c .channel .stage) writeData s) ≡ false)
       × (notGranted writeData (accessFor (c .settings) (c .channel .stage) writeData s) ≡ false)
   unfolding rowsFor
   file-there =
       let n = command-clear false c writeData d e in
-      rw (same-file d at-least) (n .1 .1 .1 .0, n .1 .1 .1 .1 .0, or-no (notGranted writeData (accessFor (c .settings) (c .channel .stage) writeData d)) _ (n .1 .1 .1 .1 .1 .0) .0)
+      rw (same-role d at-least (c .settings)) (n .1 .1 .1 .0, n .1 .1 .1 .1 .0, or-no (notGranted writeData (accessFor (c .settings) (c .channel .stage) writeData d)) _ (n .1 .1 .1 .1 .1 .0) .0)
 
   counter-left : usedUp (c .channel .stage) writeData ≡ false
   unfolding rowsFor
@@ -107,12 +111,12 @@ module _ (c : Core) (d : List ℕ) (plain : macedIn c writeData d ≡ false) (e 
   unfolding parameterCases
   parameter-there = let z : eqb (lengthOf s) 0 ≡ false = ne-eqb _ 0 (λ q. long-field .1 (sym (same-length d at-least) ∙ q)) in rw z refl
 
-  range-there : outside (c .settings .limits) (c .purse) (length (c .journal .entries)) writeData s ≡ false
+  range-there : outside (c .settings .limits) (c .purse) (length (c .journal .entries)) writeData role s ≡ false
   unfolding rowsFor plainOf outside ranged roomOf pick
   range-there =
       let n = command-clear false c writeData d e .1 .1 .1 .1 .1 .1 .1 .1 .1 .1 .0 in
       let q = rw plain at n in
-      rw (same-file d at-least, same-offset d at-least, same-length d at-least) (or-no _ _ q .0)
+      rw (same-role d at-least (c .settings), same-offset d at-least, same-length d at-least) (or-no _ _ q .0)
 
   opening-ok : (g : List ℕ) → Sent g writeData s → openingStatus c g ≡ ok
   unfolding statusFor rowsFor unknownCommand lacksMac partFails forged longRead plainOf pick
@@ -136,14 +140,14 @@ module _ (c : Core) (d : List ℕ) (plain : macedIn c writeData d ≡ false) (e 
 
 -- ---- on a card
 
--- no chain is open, and its figures are zero
+-- no chain is open: it names no file, and its figures are zero
 ended-chain : (k : Chain) → chainSound k ≡ true → isOpen k ≡ false → k ≡ unchained
 unfolding chainSound unchained
 ended-chain k s o =
     let z : eqb (k .left) 0 ≡ true = not-false _ o in
-    let (a, l) = and-yes (eqb (k .file) 0 && eqb (k .place) 0) _ (sym (picked _ _ z) ∙ s) in
-    let (f, p) = and-yes (eqb (k .file) 0) _ a in
-    λ i. record { file = eqb-true (k .file) 0 f i; place = eqb-true (k .place) 0 p i; len = eqb-true (k .len) 0 l i; left = eqb-true (k .left) 0 z i }
+    let (a, l) = and-yes (not (isFile (k .file)) && eqb (k .place) 0) _ (sym (picked _ _ z) ∙ s) in
+    let (f, p) = and-yes (not (isFile (k .file))) _ a in
+    λ i. record { file = no-file (k .file) f i; place = eqb-true (k .place) 0 p i; len = eqb-true (k .len) 0 l i; left = eqb-true (k .left) 0 z i }
 
 -- the last bytes of a chain leave the channel that one command leaves
 advanced-all : (g : Channel) (k : Chain) (n : ℕ) → g .chain ≡ unchained → k .left ≡ n → advanced (chained g k) n ≡ counted g
@@ -173,16 +177,19 @@ module _ (c : Card) (h : Kept c) (f : List ℕ) (ei : insOf f ≡ writeData) (pl
   opening-accepted : openingStatus (view c .core) g ≡ ok
   opening-accepted = opening-ok (view c .core) d plain ok-write g opening-sent
 
-  -- the chain that it announces
-  abbrev k : Chain
-  k = record { file = fileOf d; place = offsetOf d; len = lengthOf d; left = lengthOf d }
+  -- the role of the file that it names, and the chain that it announces
+  abbrev r : Role
+  r = roleIn (c .settings) d
 
-  announces : announced (dataOf g) ≡ k
+  abbrev k : Chain
+  k = record { file = r; place = offsetOf d; len = lengthOf d; left = lengthOf d }
+
+  announces : announced (roleIn (c .settings) (dataOf g)) (dataOf g) ≡ k
   unfolding announced
   announces =
       let s = at-least (view c .core) d plain ok-write in
       let q = opening-sent .field in
-      rw (q, same-file d s, same-offset d s, same-length d s) refl
+      rw (q, same-role d s (c .settings), same-offset d s, same-length d s) refl
 
   opened : outcome c (opens g) ≡ record { card = chainOn c k; refusal = 0; stored = 0; out = [] }
   opened = opens-card c h g opening-accepted ∙ ap (λ (x : Chain). record { card = chainOn c x; refusal = 0; stored = 0; out = [] }) announces
@@ -197,10 +204,10 @@ module _ (c : Card) (h : Kept c) (f : List ℕ) (ei : insOf f ≡ writeData) (pl
   module _ (u : Inputs) where
     -- what the WriteData leaves
     single : sends c f u ≡ record { card = given (chainOn c k) (bytesIn d); refusal = 0; stored = 0; out = word ok }
-    single = sym (command-plays c f u 258 (omega arith) (h .rules)) ∙ sym (plays-accepted c f u e) ∙ ap (laidInto c) as-write ∙ left-behind
+    single = sym (command-plays c f u replyRoom (omega arith) (h .rules)) ∙ sym (plays-accepted c f u e) ∙ ap (laidInto c) as-write ∙ left-behind
       where
-        as-write : accepted (view c) u (insOf f) d ≡ acceptedPlain false (view c) u writeData d
-        as-write = unfold accepted plainOf pick in rw (ei, plain) refl
+        as-write : accepted (view c) u (insOf f) d ≡ acceptedPlain false (view c) u writeData r d
+        as-write = unfold accepted plainOf view pick in rw (ei, plain) refl
 
         at : offsetOf d + (lengthOf d - lengthOf d) ≡ offsetOf d
         at = omega arith
@@ -208,13 +215,13 @@ module _ (c : Card) (h : Kept c) (f : List ℕ) (ei : insOf f ≡ writeData) (pl
         whole-long : lengthOf d ≡ length (bytesIn d)
         whole-long = let l = length-part d 7 (length d) (omega arith) in omega (arith, l, field-long .0)
 
-        left-behind : laidInto c (acceptedPlain false (view c) u writeData d) ≡ record { card = given (chainOn c k) (bytesIn d); refusal = 0; stored = 0; out = word ok }
+        left-behind : laidInto c (acceptedPlain false (view c) u writeData r d) ≡ record { card = given (chainOn c k) (bytesIn d); refusal = 0; stored = 0; out = word ok }
         left-behind = unfold laidInto acceptedPlain macBehind shown shownOf acceptedStatus changed channelAfter purseAfter journalAfter storedAfter filesAfter put view given chainOn chained pick in
             λ i. record {
               card = record {
                 settings = c .settings;
                 keys = c .keys;
-                files = written (c .files) (fileOf d) (sym at i) (bytesIn d);
+                files = written (c .files) r (sym at i) (bytesIn d);
                 purse = c .purse;
                 log = logbook.put-view (c .log) i;
                 channel = sym (advanced-all (c .channel) k (length (bytesIn d)) free whole-long) i;

@@ -18,7 +18,7 @@ use Rattle.rows.specs.Rows.{forged, usedUp, macedIn, rowsFor, ok, statusFor, st
 use Rattle.card.specs.declared.Card.{Card}
 use Rattle.card.specs.View.{view, put}
 use Rattle.card.specs.Outcome.{Outcome}
-use Rattle.card.specs.Events.{ended, refused, laidInto}
+use Rattle.card.specs.Events.{ended, refused, laidInto, replyRoom}
 use Rattle.card.specs.Laws.{command-plays, plays-refused}
 use Rattle.demands.specs.Demands.{Kept, Untouched, rowsOn}
 use Rattle.demands.specs.Sessions.{sends, WrongMac, WrongMacs}
@@ -55,7 +55,7 @@ module _ (c : Card) (h : Kept c) (g : List ℕ) (m : macedIn (view c .core) (ins
 
   module _ (u : Inputs) where
     refuses : sends c g u ≡ laidInto c (refused (view c) (first above ok))
-    refuses = sym (command-plays c g u 258 (omega arith) (h .rules)) ∙ sym (plays-refused c g u (first above ok) status-there refused-there)
+    refuses = sym (command-plays c g u replyRoom (omega arith) (h .rules)) ∙ sym (plays-refused c g u (first above ok) status-there refused-there)
 
     leaves : sends c g u .card ≡ put c 0 (ended (view c))
     unfolding laidInto refused

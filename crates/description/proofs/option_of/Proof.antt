@@ -1,19 +1,16 @@
 use Rattle.description.specs.Description.{optionOf}
 use Rattle.tables.specs.Choice.{hit, skip}
-use mathlib.Core.Path.{refl, sym, _∙_}
+use mathlib.Core.Path.{refl}
 use Rattle.description.proofs.option_of.Statement.{statement}
 use Rattle.description.proofs.option_of.Tie as tie
 
-has-mac-requires : tie.Need-has-mac-requires
-has-mac-requires c κs = tt
-
 returns : tie.Need-returns
 unfolding optionOf
-returns c = hit _ _ _ (sym (c .before .has-mac .ensures) ∙ c .if1 .taken) refl
+returns c = hit _ _ _ (c .if1 .taken) refl
 
 returns-2 : tie.Need-returns-2
 unfolding optionOf
-returns-2 c = skip _ _ _ (sym (c .before .has-mac .ensures) ∙ c .if1 .left) refl
+returns-2 c = skip _ _ _ (c .if1 .left) refl
 
 pub option-of-spec : {M : Type 1} → statement M
-option-of-spec = tie.close (tie.spec has-mac-requires returns returns-2)
+option-of-spec = tie.close (tie.spec returns returns-2)

@@ -1,8 +1,8 @@
 use Rattle.description.specs.Description.{described, describedIn}
-use Rattle.datafiles.specs.Laws.{size-most}
+use Rattle.roles.specs.Laws.{size-most}
 use Rattle.wire.specs.Laws.{shows-as, shows-none, shows-then}
 use Rattle.tables.specs.Choice.{hit, skip}
-use borrow.Author.Tests.{lt-ltb, le-ltb, eq-eqb, ne-eqb}
+use borrow.Author.Tests.{lt-ltb, le-ltb}
 use denote.Ref.{now}
 use native.Mathlib.Omega.{arith}
 use mathlib.Core.Path.{refl, sym, _∙_}
@@ -14,11 +14,11 @@ returns : tie.Need-returns
 unfolding describedIn
 returns c = shows-as _ _ _ _ _ (hit _ _ _ (lt-ltb _ _ (c .if1 .taken)) refl) (shows-none (now (c .before .before .args .reply)))
 
+file-requires : tie.Need-file-requires
+file-requires c κs = tt
+
 option-of-requires : tie.Need-option-of-requires
 option-of-requires c κs = tt
-
-rights-requires : tie.Need-rights-requires
-rights-requires c κs = tt
 
 is-data-requires : tie.Need-is-data-requires
 is-data-requires c κs = tt
@@ -30,7 +30,7 @@ size-requires : tie.Need-size-requires
 size-requires c κs = tt
 
 cast-lay-figure : tie.Need-cast-lay-figure
-cast-lay-figure c = omega (arith, size-most (c .before .before .before .before .before .before .before .before .before .before .before .args .n))
+cast-lay-figure c = omega (arith, size-most (c .before .before .before .before .before .before .before .before .before .before .before .args .role))
 
 lay-figure-requires : tie.Need-lay-figure-requires
 lay-figure-requires c κs = search needs
@@ -46,9 +46,12 @@ returns-2 c =
     let h = z .before .before .before in
     let t = h .before .before in
     let i = t .before in
-    let r = i .before in
-    shows-as _ _ _ _ _ (skip _ _ _ (le-ltb _ _ (r .before .before .if1 .left)) (hit _ _ _ (sym (i .is-data .ensures) ∙ t .if2 .taken) refl))
-    (simp (z .size .ensures, r .rights .ensures, r .before .option-of .ensures) at (shows-then _ _ _ (h .lay-head .ensures) (f .lay-figure .ensures)))
+    let o = i .before in
+    shows-as _ _ _ _ _ (skip _ _ _ (le-ltb _ _ (o .before .before .if1 .left)) (hit _ _ _ (sym (i .is-data .ensures) ∙ t .if2 .taken) refl))
+    (simp (z .size .ensures, o .option-of .ensures, o .before .file .ensures) at (shows-then _ _ _ (h .lay-head .ensures) (f .lay-figure .ensures)))
+
+is-value-requires : tie.Need-is-value-requires
+is-value-requires c κs = tt
 
 show-value-requires : tie.Need-show-value-requires
 show-value-requires c κs = search needs
@@ -61,10 +64,10 @@ unfolding describedIn described
 returns-3 c =
     let v = c .before .before in
     let t = v .before .before in
-    let e = t .before in
-    let r = e .before .before in
-    shows-as _ _ _ _ _ (skip _ _ _ (le-ltb _ _ (r .before .before .if1 .left)) (skip _ _ _ (sym (e .before .is-data .ensures) ∙ e .if2 .left) (hit _ _ _ (eq-eqb _ _ (t .if3 .taken)) refl)))
-    (simp (r .rights .ensures, r .before .option-of .ensures) at (v .show-value .ensures))
+    let e = t .before .before in
+    let o = e .before .before in
+    shows-as _ _ _ _ _ (skip _ _ _ (le-ltb _ _ (o .before .before .if1 .left)) (skip _ _ _ (sym (e .before .is-data .ensures) ∙ e .if2 .left) (hit _ _ _ (sym (t .before .is-value .ensures) ∙ t .if3 .taken) refl)))
+    (simp (o .option-of .ensures, o .before .file .ensures) at (v .show-value .ensures))
 
 lay-head-requires-2 : tie.Need-lay-head-requires-2
 lay-head-requires-2 c κs = search needs
@@ -94,19 +97,19 @@ returns-4 c =
     let m = k .before .before .before .before in
     let z = m .before .before .before .before in
     let h = z .before .before .before .before in
-    let o = h .before .before in
-    let e = o .before in
-    let r = e .before .before in
-    shows-as _ _ _ _ _ (skip _ _ _ (le-ltb _ _ (r .before .before .if1 .left)) (skip _ _ _ (sym (e .before .is-data .ensures) ∙ e .if2 .left) (skip _ _ _ (ne-eqb _ _ (o .if3 .left)) refl)))
-    (simp (r .rights .ensures, r .before .option-of .ensures) at (shows-then _ _ _ (shows-then _ _ _ (shows-then _ _ _ (h .lay-head2 .ensures) (z .lay-figure2 .ensures)) (m .lay-figure3 .ensures)) (k .lay-figure4 .ensures)))
+    let t = h .before .before in
+    let e = t .before .before in
+    let o = e .before .before in
+    shows-as _ _ _ _ _ (skip _ _ _ (le-ltb _ _ (o .before .before .if1 .left)) (skip _ _ _ (sym (e .before .is-data .ensures) ∙ e .if2 .left) (skip _ _ _ (sym (t .before .is-value .ensures) ∙ t .if3 .left) refl)))
+    (simp (o .option-of .ensures, o .before .file .ensures) at (shows-then _ _ _ (shows-then _ _ _ (shows-then _ _ _ (h .lay-head2 .ensures) (z .lay-figure2 .ensures)) (m .lay-figure3 .ensures)) (k .lay-figure4 .ensures)))
 
 pub show-spec : {M : Type 1} → statement M
 show-spec =
     tie.close
     (tie.spec
     returns
+    file-requires
     option-of-requires
-    rights-requires
     is-data-requires
     lay-head-requires
     size-requires
@@ -114,6 +117,7 @@ show-spec =
     lay-figure-requires
     same-length
     returns-2
+    is-value-requires
     show-value-requires
     same-length-2
     returns-3

@@ -1,5 +1,6 @@
 use Rattle.drafts.specs.Drafts.{drafted}
-use Rattle.lines.specs.Laws.{Ends, line-ends, text-fits, text-there}
+use Rattle.lines.specs.Laws.{Ends, line-ends}
+use Rattle.wire.specs.Laws.{shows-fits, shows-there}
 use Rattle.lines.specs.Sofar.{Sofar, sofar-start, sofar-length, sofar-end, sofar-part, sofar-full, sofar-next, sofar-as}
 use Rattle.text.specs.Shown.{inRoom, Adds}
 use Rattle.wire.specs.Bytes.{part}
@@ -34,13 +35,13 @@ written c =
     let w = c .write-line in
     let l = c .before .before .before .before .before .before .loop .inv .0 in
     let k = w .kept .1 .1 .0 in
-    (omega (arith, text-fits _ _ _ _ (w .ensures .1) k), k ∙ l)
+    (omega (arith, shows-fits _ _ _ _ (w .ensures .1) k), k ∙ l)
 
 -- and was put behind what was written before
 put-line : (c : tie.After-put Inv-loop μ-loop) → let v = c .before .before .before .before .before .before .before .before .before .before .before .loop in
     Adds (inRoom (length (v .out) - v .n) (drafted (v .draft) (part (now (c .before .before .before .before .before .before .before .before .before .before .before .before .before .before .args .text)) (v .at) (c .before .before .before .before .before .before .before .before .before .line-end .result)) .out ++ 0x0A ∷ [])) (v .out) (v .n) (c .put .last .1 .1 .0) (c .put .result)
 put-line c = let v = c .before .before .before .before .before .before .before .before .before .before .before .loop in
-    subst (λ (x : List ℕ). Adds (inRoom (length (v .out) - v .n) (x ++ 0x0A ∷ [])) (v .out) (v .n) (c .put .last .1 .1 .0) (c .put .result)) (text-there _ _ _ _ (c .before .before .before .before .before .write-line .ensures .1)) (c .put .ensures)
+    subst (λ (x : List ℕ). Adds (inRoom (length (v .out) - v .n) (x ++ 0x0A ∷ [])) (v .out) (v .n) (c .put .last .1 .1 .0) (c .put .result)) (shows-there _ _ _ _ (c .before .before .before .before .before .write-line .ensures .1)) (c .put .ensures)
 
 -- ---- the needs
 

@@ -7,9 +7,6 @@ use Rattle.effects.proofs.next_files.Tie as tie
 le3-at-requires : tie.Need-le3-at-requires
 le3-at-requires c κs = search needs
 
-byte-at-requires : tie.Need-byte-at-requires
-byte-at-requires c κs = search needs
-
 cast-write : tie.Need-cast-write
 cast-write c = search needs
 
@@ -23,7 +20,7 @@ returns : tie.Need-returns
 unfolding filesAfter
 returns c =
     let b = c .before in
-    let e = simp (b .bytes-in .ensures, b .before .byte-at .ensures, b .before .before .le3-at .ensures) at (c .write .ensures) in
+    let e = simp (b .bytes-in .ensures, b .before .le3-at .ensures) at (c .write .ensures) in
     search order
 
 returns-2 : tie.Need-returns-2
@@ -35,7 +32,6 @@ next-files-spec =
     tie.close
     (tie.spec
     le3-at-requires
-    byte-at-requires
     cast-write
     bytes-in-requires
     write-requires

@@ -1,12 +1,11 @@
 use borrow.Author.Needs.{needs}
 use mathlib.Core.Path.{_≡_, refl, ap, _∙_, sym}
-use mathlib.Core.List.{List}
 use Prim.Native.Nat.{ℕ, _≤_, _-_}
 use native.Mathlib.Omega.{arith}
 use lib.ListN.{length, getD, take, length-set}
 use lib.Seq.{take-all}
 use Rattle.field.specs.Field.{_⊕_}
-use Rattle.field.specs.Bytes.{tabled, sum, _⊞_}
+use Rattle.field.specs.Bytes.{sum, _⊞_}
 use Rattle.field.specs.Laws.{stored-next}
 use Rattle.field.proofs.add_blocks.Statement.{statement}
 use Rattle.field.proofs.add_blocks.Tie as tie

@@ -1,5 +1,4 @@
 use Rattle.modes.specs.Laws.{maced-by}
-use denote.Ref.{now}
 use Rattle.modes.specs.Modes.{macedUnder}
 use Rattle.tables.specs.Choice.{and-left}
 use mathlib.Core.Path.{sym, _∙_}
@@ -18,21 +17,15 @@ returns c = sym (and-left _ _ (sym (c .before .is-real .ensures) ∙ not-true _ 
 of-command-requires : tie.Need-of-command-requires
 of-command-requires c κs = tt
 
-byte-at-requires : tie.Need-byte-at-requires
-byte-at-requires c κs = tt
-
-has-mac-requires : tie.Need-has-mac-requires
-has-mac-requires c κs = tt
-
 is-free-only-requires : tie.Need-is-free-only-requires
 is-free-only-requires c κs = tt
 
 returns-2 : tie.Need-returns-2
 returns-2 c =
-    let s = c .before .before .before .before .before .before .before .before .before in
-    let o = c .before .before .before .before .before in
+    let o = c .before .before .before in
+    let s = o .before .before .before .args in
     let t = told _ (o .of-command .ensures) in
-    maced-by (s .args .access) (s .args .settings) (s .args .stage) (s .args .ins) (now (s .args .x)) (sym (o .before .before .is-real .ensures) ∙ not-false _ (o .before .if1 .left)) (t .2) (t .0) (c .before .before .before .before .byte-at .ensures) (c .before .before .before .has-mac .ensures) (c .before .before .is-free-only .ensures)
+    maced-by (s .access) (s .maced) (s .stage) (s .ins) (sym (o .before .before .is-real .ensures) ∙ not-false _ (o .before .if1 .left)) (t .2) (t .0) (c .before .before .is-free-only .ensures)
 
 pub is-maced-spec : {M : Type 1} → statement M
 is-maced-spec =
@@ -41,7 +34,5 @@ is-maced-spec =
     is-real-requires
     returns
     of-command-requires
-    byte-at-requires
-    has-mac-requires
     is-free-only-requires
     returns-2)

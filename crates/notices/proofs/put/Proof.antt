@@ -1,4 +1,4 @@
-use Rattle.lines.specs.Laws.{text-fits, text-there}
+use Rattle.wire.specs.Laws.{shows-fits, shows-there}
 use native.Mathlib.Omega.{arith}
 use borrow.Author.Needs.{needs}
 use Rattle.notices.proofs.put.Statement.{statement}
@@ -17,7 +17,7 @@ part-put-start : tie.Need-part-put-start
 part-put-start c = search needs
 
 part-put-end : tie.Need-part-put-end
-part-put-end c = let p = c .before .before .put-text in omega (arith, text-fits _ _ _ _ (p .ensures) (p .kept .1 .1 .1 .1 .1 .0), p .kept .1 .1 .1 .1 .1 .0)
+part-put-end c = let p = c .before .before .put-text in omega (arith, shows-fits _ _ _ _ (p .ensures) (p .kept .1 .1 .1 .1 .1 .0), p .kept .1 .1 .1 .1 .1 .0)
 
 put-requires : tie.Need-put-requires
 put-requires c κs = tt
@@ -26,7 +26,7 @@ same-length : tie.Need-same-length
 same-length c = search needs
 
 returns : tie.Need-returns
-returns c = rw (text-there _ _ _ _ (c .before .before .before .before .before .before .before .put-text .ensures)) at (c .before .before .put .ensures)
+returns c = rw (shows-there _ _ _ _ (c .before .before .before .before .before .before .before .put-text .ensures)) at (c .before .before .put .ensures)
 
 pub put-spec : {M : Type 1} → statement M
 put-spec =

@@ -4,8 +4,7 @@ use Rattle.answers.specs.Answers.{numbered, refusalText}
 use Rattle.answers.specs.Laws.{length-numbered, length-refusal}
 use Rattle.books.specs.Books.{booksIn}
 use Rattle.text.specs.Laws.{room-yes, digits-shown}
-use Rattle.text.specs.Adds.{shows-laid}
-use Rattle.wire.specs.Laws.{shows-as}
+use Rattle.wire.specs.Laws.{shows-as, shows-whole}
 use Rattle.tables.specs.Choice.{passed}
 use borrow.Author.Tests.{le-ltb}
 use lib.ListN.{length}
@@ -33,7 +32,7 @@ returns : tie.Need-returns
 unfolding noticeText
 returns c =
     let s = c .before .before .before .before .before .before .before .before in
-    rw (ap (λ a. noticeText a (s .args .purse) (s .args .log) (s .args .stage) (s .args .chain)) (c .before .before .before .before .before .enum-told .given .1)) (shows-laid (0x3F ∷ []) (now (s .args .text)) _ 1 refl (omega arith) (c .before .before .lay .ensures))
+    rw (ap (λ a. noticeText a (s .args .purse) (s .args .log) (s .args .stage) (s .args .chain)) (c .before .before .before .before .before .enum-told .given .1)) (shows-whole (0x3F ∷ []) (now (s .args .text)) _ 1 refl (omega arith) (c .before .before .lay .ensures))
 
 enum-known-notice : tie.Need-enum-known-notice
 enum-known-notice c = search needs

@@ -5,16 +5,13 @@ use Rattle.parameters.proofs.is_long_read.Statement.{statement}
 use Rattle.parameters.proofs.is_long_read.Tie as tie
 
 returns : tie.Need-returns
-returns c = long-other _ _ _ (c .if1 .taken)
+returns c = long-other _ _ _ _ (c .if1 .taken)
 
 returns-2 : tie.Need-returns-2
-returns-2 c = long-plain _ _ _ (c .if2 .taken)
+returns-2 c = long-plain _ _ _ _ (c .if2 .taken)
 
 le3-at-requires : tie.Need-le3-at-requires
 le3-at-requires c κs = tt
-
-byte-at-requires : tie.Need-byte-at-requires
-byte-at-requires c κs = tt
 
 le3-at-requires-2 : tie.Need-le3-at-requires-2
 le3-at-requires-2 c κs = tt
@@ -29,7 +26,7 @@ add-result : tie.Need-add-result
 add-result c = search needs
 
 returns-3 : tie.Need-returns-3
-returns-3 c = long-by _ _ _ (c .before .before .before .before .before .if1 .left) (not-false _ (c .before .before .before .before .if2 .left)) (c .before .before .before .le3-at .ensures) (c .before .before .byte-at .ensures) (c .before .le3-at2 .ensures) (c .end .ensures)
+returns-3 c = long-by _ _ _ _ (c .before .before .before .before .if1 .left) (not-false _ (c .before .before .before .if2 .left)) (c .before .before .le3-at .ensures) (c .before .le3-at2 .ensures) (c .end .ensures)
 
 pub is-long-read-spec : {M : Type 1} → statement M
 is-long-read-spec =
@@ -38,7 +35,6 @@ is-long-read-spec =
     returns
     returns-2
     le3-at-requires
-    byte-at-requires
     le3-at-requires-2
     end-requires
     cast-result

@@ -7,9 +7,6 @@ use Rattle.parameters.proofs.is_outside.Tie as tie
 has-range-requires : tie.Need-has-range-requires
 has-range-requires c κs = tt
 
-byte-at-requires : tie.Need-byte-at-requires
-byte-at-requires c κs = tt
-
 room-of-requires : tie.Need-room-of-requires
 room-of-requires c κs = tt
 
@@ -26,8 +23,8 @@ returns : tie.Need-returns
 unfolding outside
 returns c =
     let r = c .before .before .before in
-    let i = r .before .before in
-    hit _ _ _ (sym (i .before .has-range .ensures) ∙ i .if1 .taken) (simp (c .is-outside .ensures, r .room-of .ensures, r .before .byte-at .ensures, c .before .before .le3-at .ensures, c .before .le3-at2 .ensures))
+    let i = r .before in
+    hit _ _ _ (sym (i .before .has-range .ensures) ∙ i .if1 .taken) (simp (c .is-outside .ensures, r .room-of .ensures, c .before .before .le3-at .ensures, c .before .le3-at2 .ensures))
 
 le4-at-requires : tie.Need-le4-at-requires
 le4-at-requires c κs = tt
@@ -46,7 +43,6 @@ is-outside-spec =
     tie.close
     (tie.spec
     has-range-requires
-    byte-at-requires
     room-of-requires
     le3-at-requires
     le3-at-requires-2

@@ -9,9 +9,6 @@ use borrow.Author.Needs.{needs}
 use Rattle.replies.proofs.show.Statement.{statement}
 use Rattle.replies.proofs.show.Tie as tie
 
-byte-at-requires : tie.Need-byte-at-requires
-byte-at-requires c κs = tt
-
 le3-at-requires : tie.Need-le3-at-requires
 le3-at-requires c κs = tt
 
@@ -29,7 +26,7 @@ unfolding shownIn
 returns c =
     let s = c .before .before in
     let l = s .before .before in
-    shows-as (files.shownIn _ _ _ _ _) _ _ _ _ (search order) (simp (l .le3-at2 .ensures, l .before .le3-at .ensures, l .before .before .byte-at .ensures) at (s .show .ensures))
+    shows-as (files.shownIn _ _ _ _ _) _ _ _ _ (search order) (simp (l .le3-at2 .ensures, l .before .le3-at .ensures) at (s .show .ensures))
 
 show-value-requires : tie.Need-show-value-requires
 show-value-requires c κs = tt
@@ -63,9 +60,6 @@ returns-3 c =
     let l = s .before .before in
     shows-as _ _ _ _ _ (search order) (simp (l .le3-at4 .ensures, l .before .le3-at3 .ensures) at (s .show2 .ensures))
 
-byte-at-requires-2 : tie.Need-byte-at-requires-2
-byte-at-requires-2 c κs = tt
-
 show-requires-3 : tie.Need-show-requires-3
 show-requires-3 c κs = tt
 
@@ -76,7 +70,7 @@ returns-4 : tie.Need-returns-4
 unfolding shownIn
 returns-4 c =
     let s = c .before .before in
-    shows-as _ _ _ _ _ (search order depth 7) (simp (s .before .before .byte-at2 .ensures) at (s .show3 .ensures))
+    shows-as _ _ _ _ _ (search order depth 7) (s .show3 .ensures)
 
 returns-5 : tie.Need-returns-5
 unfolding shownIn
@@ -86,7 +80,6 @@ pub show-spec : {M : Type 1} → statement M
 show-spec =
     tie.close
     (tie.spec
-    byte-at-requires
     le3-at-requires
     le3-at-requires-2
     show-requires
@@ -100,7 +93,6 @@ show-spec =
     show-requires-2
     same-length-3
     returns-3
-    byte-at-requires-2
     show-requires-3
     same-length-4
     returns-4

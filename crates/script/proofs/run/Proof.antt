@@ -6,6 +6,7 @@ use Rattle.letters.specs.Laws.{Plays, lent-most, plays-lent, reply-bytes}
 use Rattle.card.specs.Events.{commanded}
 use Rattle.desk.specs.declared.Desk.{Desk}
 use Rattle.wire.specs.Bytes.{part}
+use Rattle.wire.specs.Laws.{length-part}
 use borrow.Author.Needs.{needs}
 use denote.Ref.{now}
 use lib.ListN.{length, drop}
@@ -62,6 +63,12 @@ module _ (k : tie.After-command Inv-loop μ-loop) where
   unfolding afterEvent
   plays =
       plays-lent (commanded (at-loop .loop .played .card) _ (at-loop .loop .desk .inputs)) (at-loop .loop .reply) _ (at-loop .loop .desk .room) _ _ (k .before .before .before .before .before .before .before .lent-room .ensures) (omega (arith, at-loop .loop .inv .0)) (k .command .kept .1 .1 .1 .0) (k .command .ensures)
+
+  abbrev replied : List ℕ
+  replied = part buffer 0 (k .command .result .len)
+
+  replied-most : length replied ≤ 512
+  replied-most = let n = reply-bytes _ _ _ plays .1 in omega (arith, n, length-part buffer 0 (k .command .result .len) (omega (arith, n, buffer-length)))
 
 -- there is none: the line goes up to the next LF
 module _ (k : tie.After-line-end Inv-loop μ-loop) where
@@ -132,10 +139,9 @@ returns c =
     let m = c .before .before .before .before .before .before .before .before in
     let v = at-loop m .loop in
     let a = at-loop m .before .before .before .before .args in
-    let bytes = reply-bytes _ _ _ (plays m) in
     ⊎-elim
     (λ w. rw (w .1) (played-full (a .desk) (now (a .text)) (now (a .out)) (here (at-loop m)) (v .at) (v .n) (v .out) (v .inv .1) _ (spelt m .spell-frame .ensures .0) (m .before .before .before .before .before .before .before .before .if1 .taken) _ (spelt m .spell-frame .ensures .1) (buffer m) _ (plays m) _ _ (c .before .before .before .put-line .ensures) (c .if3 .taken)))
-    (λ w. absurd (written (v .out) _ (v .n) _ _ _ (c .before .before .before .put-line .ensures) (omega (arith, bytes .1)) (w .0 .left) (c .if3 .taken)))
+    (λ w. absurd (written (v .out) _ (v .n) _ _ (replied m) (c .before .before .before .put-line .ensures) (replied-most m) (w .0 .left) (c .if3 .taken)))
     (m .before .before .before .before .if2 .came)
 
 mul-at : tie.Need-mul-at Inv-loop μ-loop

@@ -1,4 +1,5 @@
-use Rattle.till.specs.Laws.{length-data, in-short, in-long, in-full}
+use Rattle.frames.specs.Laws.{length-data}
+use Rattle.till.specs.Laws.{in-short, in-long, in-full}
 use Rattle.sealed.proofs.Laying.{sealed-shown}
 use Rattle.wire.specs.Laws.{shows-as, shows-none}
 use lib.ListN.{length}

@@ -8,6 +8,12 @@ has-wrong-rights-requires c κs = tt
 are-crossed-requires : tie.Need-are-crossed-requires
 are-crossed-requires c κs = tt
 
+has-number-above-requires : tie.Need-has-number-above-requires
+has-number-above-requires c κs = tt
+
+has-number-twice-requires : tie.Need-has-number-twice-requires
+has-number-twice-requires c κs = tt
+
 is-sound-requires : tie.Need-is-sound-requires
 is-sound-requires c κs = tt
 
@@ -25,9 +31,10 @@ returns c =
     let v = c .before in
     let l = v .before .before in
     let s = l .before in
-    let x = s .before in
+    let n = s .before in
+    let x = n .before .before in
     let a = x .before .before .before .args in
-    rw (x .before .has-wrong-rights .ensures, x .are-crossed .ensures, s .is-sound .ensures, l .log-breaks .ensures, v .value-breaks .ensures, c .chain-breaks .ensures) (by-parts (a .settings) (a .purse) (a .log) (a .stage) (a .chain))
+    rw (x .before .has-wrong-rights .ensures, x .are-crossed .ensures, n .before .has-number-above .ensures, n .has-number-twice .ensures, s .is-sound .ensures, l .log-breaks .ensures, v .value-breaks .ensures, c .chain-breaks .ensures) (by-parts (a .settings) (a .purse) (a .log) (a .stage) (a .chain))
 
 pub breaks-spec : {M : Type 1} → statement M
 breaks-spec =
@@ -35,6 +42,8 @@ breaks-spec =
     (tie.spec
     has-wrong-rights-requires
     are-crossed-requires
+    has-number-above-requires
+    has-number-twice-requires
     is-sound-requires
     log-breaks-requires
     value-breaks-requires

@@ -1,9 +1,5 @@
-use Rattle.tables.specs.Choice.{hit, skip}
-use mathlib.Core.Path.{refl, sym, ap, _∙_}
 use Rattle.standing.specs.Rules.{orderRefusal}
-use Rattle.limits.specs.Limits.{within}
 use mir.Facts.{toZ-ofZ}
-use mathlib.Core.Bool.{not}
 use Rattle.standing.proofs.refusal.Statement.{statement}
 use Rattle.standing.proofs.refusal.Tie as tie
 
@@ -16,33 +12,22 @@ are-crossed-requires c κs = tt
 hold-requires : tie.Need-hold-requires
 hold-requires c κs = tt
 
+has-number-above-requires : tie.Need-has-number-above-requires
+has-number-above-requires c κs = tt
+
+has-number-twice-requires : tie.Need-has-number-twice-requires
+has-number-twice-requires c κs = tt
+
+first-fault-requires : tie.Need-first-fault-requires
+first-fault-requires c κs = tt
+
 returns : tie.Need-returns
 unfolding orderRefusal
-returns c = hit _ _ _ (sym (c .before .before .before .has-wrong-rights .ensures) ∙ c .if1 .taken) refl
-
-returns-2 : tie.Need-returns-2
-unfolding orderRefusal
-returns-2 c =
-    skip _ _ _ (sym (c .before .before .before .before .has-wrong-rights .ensures) ∙ c .before .if1 .left)
-    (hit _ _ _ (sym (c .before .before .before .are-crossed .ensures) ∙ c .if2 .taken) refl)
-
-returns-3 : tie.Need-returns-3
-unfolding orderRefusal
-returns-3 c =
-    let s = c .before .before .before .before .before .before .before in
-    let h = c .before .before .before .hold .ensures ∙ ap (within (s .args .settings .limits)) (toZ-ofZ (s .fits .value)) in
-    skip _ _ _ (sym (c .before .before .before .before .before .has-wrong-rights .ensures) ∙ c .before .before .if1 .left)
-    (skip _ _ _ (sym (c .before .before .before .before .are-crossed .ensures) ∙ c .before .if2 .left)
-    (hit _ _ _ (sym (ap not h) ∙ c .if3 .taken) refl))
-
-returns-4 : tie.Need-returns-4
-unfolding orderRefusal
-returns-4 c =
-    let s = c .before .before .before .before .before .before .before in
-    let h = c .before .before .before .hold .ensures ∙ ap (within (s .args .settings .limits)) (toZ-ofZ (s .fits .value)) in
-    skip _ _ _ (sym (c .before .before .before .before .before .has-wrong-rights .ensures) ∙ c .before .before .if1 .left)
-    (skip _ _ _ (sym (c .before .before .before .before .are-crossed .ensures) ∙ c .before .if2 .left)
-    (skip _ _ _ (sym (ap not h) ∙ c .if3 .left) refl))
+returns c = let t = c .before in
+    let h = t .before .before in
+    let r = h .before .before in
+    let s = r .before .before in
+    simp (c .first-fault .ensures, t .has-number-twice .ensures, t .before .has-number-above .ensures, h .hold .ensures, toZ-ofZ (s .fits .value), h .before .are-crossed .ensures, r .has-wrong-rights .ensures)
 
 pub refusal-spec : {M : Type 1} → statement M
 refusal-spec =
@@ -51,7 +36,7 @@ refusal-spec =
     has-wrong-rights-requires
     are-crossed-requires
     hold-requires
-    returns
-    returns-2
-    returns-3
-    returns-4)
+    has-number-above-requires
+    has-number-twice-requires
+    first-fault-requires
+    returns)

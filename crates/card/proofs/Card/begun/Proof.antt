@@ -39,7 +39,7 @@ same-length c = search needs
 
 returns : tie.Need-returns
 unfolding shown acceptedStatus pick view
-returns c = let a = c .before .before .before .before .before .before .before .before .before .before .before .before .before .before .before .args in let l : length (c .before .before .before .before .before .before .before .before .before .before .before .show-first .result) ≡ 16 = long (c .before .before .before .before .before .before .before .before .before .before .before) in part-answers (a .self) (a .inputs) authenticateFirst (now (a .d)) _ (now (a .reply)) 16 0x91AF (c .on-channel .ensures ∙ ap (onChannel (a .self)) (c .before .begin .ensures) ∙ on-begun (a .self) (a .inputs) (now (a .d))) (unfold storedAfter pick in refl) (c .before .before .before .before .before .before .before .before .before .before .before .show-first .ensures) refl l (omega (arith, c .before .before .before .before .before .before .before .before .before .before .before .before .before .before .before .pre)) (c .before .before .before .before .before .before .before .before .lay .ensures) (c .before .before .before .before .close .ensures .0) (c .before .before .before .before .close .ensures .1)
+returns c = let a = c .before .before .before .before .before .before .before .before .before .before .before .before .before .before .before .args in let l : length (c .before .before .before .before .before .before .before .before .before .before .before .show-first .result) ≡ 16 = long (c .before .before .before .before .before .before .before .before .before .before .before) in part-answers (a .self) (a .inputs) authenticateFirst (a .role) (now (a .d)) _ (now (a .reply)) 16 0x91AF (c .on-channel .ensures ∙ ap (onChannel (a .self)) (c .before .begin .ensures) ∙ on-begun (a .self) (a .inputs) (a .role) (now (a .d))) (unfold storedAfter pick in refl) (c .before .before .before .before .before .before .before .before .before .before .before .show-first .ensures) refl l (omega (arith, c .before .before .before .before .before .before .before .before .before .before .before .before .before .before .before .pre)) (c .before .before .before .before .before .before .before .before .lay .ensures) (c .before .before .before .before .close .ensures .0) (c .before .before .before .before .close .ensures .1)
 
 pub begun-spec : {M : Type 1} → statement M
 begun-spec =

@@ -5,10 +5,11 @@ use Rattle.card.specs.Events.{replyRoom}
 use Rattle.card.specs.Accepted.{Granted}
 use Rattle.card.specs.Laws.{bench-answers, answered-as, no-bench, command-bench, command-refused, command-granted, command-accepts, command-part, command-quiet, begins-plain, opens-plain, opens-long, moved, wrote, write-stores-none}
 use Rattle.card.specs.Sealing.{Sealed, sealed-plain}
-use Rattle.checks.specs.Order.{status-told, maced-told}
+use Rattle.checks.specs.Order.{status-told, maced-told, role-told}
 use Rattle.card.specs.View.{view, broken}
 use Rattle.channel.specs.declared.Inputs.{Inputs}
 use Rattle.rows.specs.Rows.{ok, macedIn, statusOf}
+use Rattle.modes.specs.Modes.{roleIn}
 use Rattle.frames.specs.Frame.{insOf, dataOf}
 use Rattle.tables.specs.Choice.{pick-both}
 use borrow.Author.Tests.{ne-eqb}
@@ -55,8 +56,12 @@ module _ (p : tie.After-plain) where
   unfolding view
   maced = maced-told _ _ _ (p .before .before .before .before .check .ensures) taken
 
-  granted : Granted (view card .core) (p .before .before .before .before .check .result .maced) (p .before .before .byte-at .result) (now (p .plain .result))
-  granted = command-granted card frame inputs buffer room sound taken maced (p .before .before .byte-at .ensures) (p .before .«data» .ensures) (p .plain .ensures)
+  role : p .before .before .before .before .check .result .role ≡ roleIn (view card .core .settings) (dataOf frame)
+  unfolding view
+  role = role-told _ _ _ (p .before .before .before .before .check .ensures) taken
+
+  granted : Granted (view card .core) (p .before .before .before .before .check .result .maced) (p .before .before .byte-at .result) (p .before .before .before .before .check .result .role) (now (p .plain .result))
+  granted = command-granted card frame inputs buffer room sound taken maced role (p .before .before .byte-at .ensures) (p .before .«data» .ensures) (p .plain .ensures)
 
 -- what is laid behind no data
 module _ (j : tie.Joined6) where
@@ -84,8 +89,8 @@ returns c =
 check-requires : tie.Need-check-requires
 check-requires c κs = tt
 
-close-requires : tie.Need-close-requires
-close-requires c κs = omega arith
+say-requires : tie.Need-say-requires
+say-requires c κs = tt
 
 ended-requires : tie.Need-ended-requires
 ended-requires c κs = tt
@@ -99,7 +104,7 @@ returns-2 c =
     let k = c .before .before .before .before .before in
     let a = k .before .before .before .before .before .before .before .before .before .before .before .before .args in
     let u = no-bench (a .self) (length (now (a .reply))) (k .before .before .before .bench-refusal .ensures) (k .before .before .if1 .left) in
-    let w = c .before .before .before .close .ensures in
+    let w = c .before .before .before .say .ensures in
     command-refused (a .self) (now (a .frame)) (a .inputs) (now (a .reply)) (u .0) (u .1) _ (status-told _ _ _ (k .before .check .ensures)) (k .if2 .taken) (c .ended .ensures) (w .0) (w .1)
 
 byte-at-requires : tie.Need-byte-at-requires
@@ -120,14 +125,14 @@ same-length-2 c = search needs
 returns-3 : tie.Need-returns-3
 returns-3 c =
     let p = c .before .before .before .before .before in
-    command-part (card p) (frame p) (inputs p) (buffer p) (room p) (sound p) (taken p) (maced p) (p .before .before .byte-at .ensures) (p .before .«data» .ensures) (p .plain .ensures) (c .before .before .before .before .if3 .taken)
-    (begins-plain (card p) (frame p) (inputs p) (buffer p) (room p) (sound p) (taken p) (maced p) (p .before .before .byte-at .ensures) (p .before .«data» .ensures) (p .plain .ensures) (c .before .before .before .before .if3 .taken))
+    command-part (card p) (frame p) (inputs p) (buffer p) (room p) (sound p) (taken p) (maced p) (role p) (p .before .before .byte-at .ensures) (p .before .«data» .ensures) (p .plain .ensures) (c .before .before .before .before .if3 .taken)
+    (begins-plain (card p) (frame p) (inputs p) (buffer p) (room p) (sound p) (taken p) (maced p) (role p) (p .before .before .byte-at .ensures) (p .before .«data» .ensures) (p .plain .ensures) (c .before .before .before .before .if3 .taken))
     (c .before .before .begun .ensures)
 
 opened-requires : tie.Need-opened-requires
 opened-requires c κs =
     let p = c .before .before .before in
-    (room p, opens-long (card p) (frame p) (inputs p) (buffer p) (room p) (sound p) (taken p) (maced p) (p .before .before .byte-at .ensures) (p .before .«data» .ensures) (p .plain .ensures) (c .before .if4 .taken))
+    (room p, opens-long (card p) (frame p) (inputs p) (buffer p) (room p) (sound p) (taken p) (maced p) (role p) (p .before .before .byte-at .ensures) (p .before .«data» .ensures) (p .plain .ensures) (c .before .if4 .taken))
 
 same-length-3 : tie.Need-same-length-3
 same-length-3 c = search needs
@@ -135,8 +140,8 @@ same-length-3 c = search needs
 returns-4 : tie.Need-returns-4
 returns-4 c =
     let p = c .before .before .before .before .before .before in
-    command-part (card p) (frame p) (inputs p) (buffer p) (room p) (sound p) (taken p) (maced p) (p .before .before .byte-at .ensures) (p .before .«data» .ensures) (p .plain .ensures) (c .before .before .before .before .if4 .taken)
-    (opens-plain (card p) (frame p) (inputs p) (buffer p) (room p) (sound p) (taken p) (maced p) (p .before .before .byte-at .ensures) (p .before .«data» .ensures) (p .plain .ensures) (c .before .before .before .before .if4 .taken))
+    command-part (card p) (frame p) (inputs p) (buffer p) (room p) (sound p) (taken p) (maced p) (role p) (p .before .before .byte-at .ensures) (p .before .«data» .ensures) (p .plain .ensures) (c .before .before .before .before .if4 .taken)
+    (opens-plain (card p) (frame p) (inputs p) (buffer p) (room p) (sound p) (taken p) (maced p) (role p) (p .before .before .byte-at .ensures) (p .before .«data» .ensures) (p .plain .ensures) (c .before .before .before .before .if4 .taken))
     (c .before .before .opened .ensures)
 
 shows-requires : tie.Need-shows-requires
@@ -153,7 +158,7 @@ same-length-4 c = search needs
 returns-5 : tie.Need-returns-5
 returns-5 c =
     let p = c .before .before .before .before .before .before .before .before in
-    command-accepts (card p) (frame p) (inputs p) (buffer p) (room p) (sound p) (taken p) (maced p) (p .before .before .byte-at .ensures) (p .before .«data» .ensures) (p .plain .ensures) (c .before .before .shown .ensures)
+    command-accepts (card p) (frame p) (inputs p) (buffer p) (room p) (sound p) (taken p) (maced p) (role p) (p .before .before .byte-at .ensures) (p .before .«data» .ensures) (p .plain .ensures) (c .before .before .shown .ensures)
 
 counted-requires : tie.Need-counted-requires
 counted-requires c κs = tt
@@ -161,8 +166,8 @@ counted-requires c κs = tt
 seal-requires : tie.Need-seal-requires
 seal-requires c κs = (pick-both (λ n. 0 + n ≤ 256) _ 8 0 (omega arith) (omega arith), room (c .before .before .before .before .before .before .before))
 
-close-requires-2 : tie.Need-close-requires-2
-close-requires-2 c κs = omega arith
+close-requires : tie.Need-close-requires
+close-requires c κs = omega arith
 
 next-files-requires : tie.Need-next-files-requires
 next-files-requires c κs = tt
@@ -174,8 +179,8 @@ returns-6 : tie.Need-returns-6
 returns-6 c =
     let q = c .before .before .before .before .before in
     let p = c .before .before .before .before .before .before .before .before .before in
-    let w = wrote (card p) (inputs p) _ (now (p .plain .result)) _ (c .before .if7 .taken) (c .next-files .ensures) (c .before .before .before .before .counted .ensures) in
-    command-quiet (card p) (frame p) (inputs p) (buffer p) (room p) (sound p) (taken p) (maced p) (p .before .before .byte-at .ensures) (p .before .«data» .ensures) (p .plain .ensures) (ne-eqb _ _ (q .before .before .before .if3 .left)) (ne-eqb _ _ (q .before .before .if4 .left)) (sym (q .before .shows .ensures) ∙ q .if5 .left) (write-stores-none (card p) (c .before .if7 .taken)) w (c .before .before .before .before .counted .ensures) (sealed (c .before .before .before))
+    let w = wrote (card p) (inputs p) _ _ (now (p .plain .result)) _ (c .before .if7 .taken) (c .next-files .ensures) (c .before .before .before .before .counted .ensures) in
+    command-quiet (card p) (frame p) (inputs p) (buffer p) (room p) (sound p) (taken p) (maced p) (role p) (p .before .before .byte-at .ensures) (p .before .«data» .ensures) (p .plain .ensures) (ne-eqb _ _ (q .before .before .before .if3 .left)) (ne-eqb _ _ (q .before .before .if4 .left)) (sym (q .before .shows .ensures) ∙ q .if5 .left) (write-stores-none (card p) (c .before .if7 .taken)) w (c .before .before .before .before .counted .ensures) (sealed (c .before .before .before))
 
 next-log-requires : tie.Need-next-log-requires
 next-log-requires c κs = tt
@@ -196,8 +201,8 @@ returns-7 c =
     let n = ap (λ (r : Stored). r .stored) l in
     let n₁ = ne-eqb _ _ (q .before .before .before .if3 .left) in
     let n₂ = ne-eqb _ _ (q .before .before .if4 .left) in
-    let w = moved (card p) (inputs p) _ _ _ _ (granted p .0) n₁ n₂ (ne-eqb _ _ (x .before .before .if7 .left)) (c .next-purse .ensures) (ap (λ (r : Stored). r .log) l) n (x .before .before .before .before .before .counted .ensures) in
-    command-quiet (card p) (frame p) (inputs p) (buffer p) (room p) (sound p) (taken p) (maced p) (p .before .before .byte-at .ensures) (p .before .«data» .ensures) (p .plain .ensures) n₁ n₂ (sym (q .before .shows .ensures) ∙ q .if5 .left) n w (x .before .before .before .before .before .counted .ensures) (sealed (x .before .before .before .before))
+    let w = moved (card p) (inputs p) _ _ _ _ _ (granted p .0) n₁ n₂ (ne-eqb _ _ (x .before .before .if7 .left)) (c .next-purse .ensures) (ap (λ (r : Stored). r .log) l) n (x .before .before .before .before .before .counted .ensures) in
+    command-quiet (card p) (frame p) (inputs p) (buffer p) (room p) (sound p) (taken p) (maced p) (role p) (p .before .before .byte-at .ensures) (p .before .«data» .ensures) (p .plain .ensures) n₁ n₂ (sym (q .before .shows .ensures) ∙ q .if5 .left) n w (x .before .before .before .before .before .counted .ensures) (sealed (x .before .before .before .before))
 
 pub command-spec : {M : Type 1} → statement M
 command-spec =
@@ -206,7 +211,7 @@ command-spec =
     bench-refusal-requires
     returns
     check-requires
-    close-requires
+    say-requires
     ended-requires
     same-length
     returns-2
@@ -225,7 +230,7 @@ command-spec =
     returns-5
     counted-requires
     seal-requires
-    close-requires-2
+    close-requires
     next-files-requires
     same-length-5
     returns-6

@@ -1,7 +1,7 @@
 use Rattle.card.specs.Laws.{bench-answers, answered-as, no-bench, opening-bench, opening-refused, opening-taken}
 use Rattle.card.specs.View.{view, broken}
 use Rattle.card.specs.Events.{replyRoom}
-use Rattle.checks.specs.Order.{status-told}
+use Rattle.checks.specs.Order.{status-told, role-told}
 use borrow.Author.Needs.{needs}
 use denote.Ref.{now}
 use lib.ListN.{length}
@@ -56,7 +56,9 @@ unfolding view
 returns-3 c =
     let k = c .before .before .before .before .before .before in
     let a = k .before .before .before .before .before .before .before .before .before .before .args in
-    opening-taken (a .self) (now (a .frame)) (now (a .reply)) (unrefused k .0) (unrefused k .1) (sym (status-told _ _ _ (c .before .before .before .before .before .check .ensures)) ∙ c .before .before .before .before .if2 .left) (c .before .before .before .«data» .ensures) (c .before .before .announced .ensures) (c .before .chained .ensures) (c .on-channel .ensures)
+    let checked = c .before .before .before .before .before .check .ensures in
+    let taken = sym (status-told _ _ _ checked) ∙ c .before .before .before .before .if2 .left in
+    opening-taken (a .self) (now (a .frame)) (now (a .reply)) (unrefused k .0) (unrefused k .1) taken (role-told _ _ _ checked taken) (c .before .before .before .«data» .ensures) (c .before .before .announced .ensures) (c .before .chained .ensures) (c .on-channel .ensures)
 
 pub open-chain-spec : {M : Type 1} → statement M
 open-chain-spec =

@@ -40,7 +40,7 @@ same-length c = search needs
 
 returns : tie.Need-returns
 unfolding shown acceptedStatus pick view
-returns c = let a = c .before .before .before .before .before .before .before .before .before .before .before .before .before .before .before .before .args in let l : length (c .before .before .before .before .before .before .before .before .before .before .before .show-second .result) ≡ 32 = long (c .before .before .before .before .before .before .before .before .before .before .before) in part-answers (a .self) (a .inputs) authenticateSecond (now (a .d)) _ (now (a .reply)) 32 0x9100 (c .on-channel .ensures ∙ ap (onChannel (a .self)) (c .before .«open» .ensures) ∙ on-opened (a .self) (a .inputs) (now (a .d)) (c .before .before .before .before .before .before .before .before .before .before .before .before .before .before .before .before .pre .1)) (unfold storedAfter pick in refl) (c .before .before .before .before .before .before .before .before .before .before .before .show-second .ensures ∙ second-whole (a .self .keys) (a .self .channel) (now (a .d)) (c .before .before .before .before .before .before .before .before .before .before .before .before .before .before .before .before .pre .1)) refl l (omega (arith, c .before .before .before .before .before .before .before .before .before .before .before .before .before .before .before .before .pre .0)) (c .before .before .before .before .before .before .before .before .lay .ensures) (c .before .before .before .before .close .ensures .0) (c .before .before .before .before .close .ensures .1)
+returns c = let a = c .before .before .before .before .before .before .before .before .before .before .before .before .before .before .before .before .args in let l : length (c .before .before .before .before .before .before .before .before .before .before .before .show-second .result) ≡ 32 = long (c .before .before .before .before .before .before .before .before .before .before .before) in part-answers (a .self) (a .inputs) authenticateSecond (a .role) (now (a .d)) _ (now (a .reply)) 32 0x9100 (c .on-channel .ensures ∙ ap (onChannel (a .self)) (c .before .«open» .ensures) ∙ on-opened (a .self) (a .inputs) (a .role) (now (a .d)) (c .before .before .before .before .before .before .before .before .before .before .before .before .before .before .before .before .pre .1)) (unfold storedAfter pick in refl) (c .before .before .before .before .before .before .before .before .before .before .before .show-second .ensures ∙ second-whole (a .self .keys) (a .self .channel) (now (a .d)) (c .before .before .before .before .before .before .before .before .before .before .before .before .before .before .before .before .pre .1)) refl l (omega (arith, c .before .before .before .before .before .before .before .before .before .before .before .before .before .before .before .before .pre .0)) (c .before .before .before .before .before .before .before .before .lay .ensures) (c .before .before .before .before .close .ensures .0) (c .before .before .before .before .close .ensures .1)
 
 pub opened-spec : {M : Type 1} → statement M
 opened-spec =

@@ -17,14 +17,14 @@ use Rattle.card.proofs.Card.shown.Tie as tie
 
 -- what is laid first is the command's data, with room for the rest
 laid-first : (s : tie.Start) (after : List ℕ) (n : ℕ)
-    → Shows (shownIn (length (now (s .args .reply))) (s .args .self .settings) (s .args .self .files) (s .args .self .purse) (s .args .self .log) (s .args .ins) (now (s .args .d))) (now (s .args .reply)) after n
-    → Shows (baseShown (view (s .args .self)) (s .args .ins) (now (s .args .d))) (now (s .args .reply)) after n × (n + pick (s .args .maced) 8 0 ≤ 256) × (258 ≤ length after)
+    → Shows (shownIn (length (now (s .args .reply))) (s .args .self .settings) (s .args .self .files) (s .args .self .purse) (s .args .self .log) (s .args .ins) (s .args .role) (now (s .args .d))) (now (s .args .reply)) after n
+    → Shows (baseShown (view (s .args .self)) (s .args .ins) (s .args .role) (now (s .args .d))) (now (s .args .reply)) after n × (n + pick (s .args .maced) 8 0 ≤ 256) × (258 ≤ length after)
 laid-first s after n h =
     let a = s .args in
     let log = s .good .0 .1 .1 .1 .1 .1 .1 .0 in
     let slots : length (a .self .log .slots) ≡ 64 = search (needs, log) in
     let entry : length (a .self .log .entry) ≡ 16 = search (needs, log) in
-    let w = accepted-shows (a .self) (a .maced) (a .ins) (now (a .d)) (now (a .reply)) after n (s .pre .1) (s .pre .2) (s .pre .3) slots entry h in
+    let w = accepted-shows (a .self) (a .maced) (a .ins) (a .role) (now (a .d)) (now (a .reply)) after n (s .pre .1) (s .pre .2) (s .pre .3) slots entry h in
     (w .0, w .1, omega (arith, s .pre .3, w .1, shows-length _ (now (a .reply)) after n (w .0) (omega (arith, s .pre .3, w .1))))
 
 counted-requires : tie.Need-counted-requires
@@ -43,7 +43,7 @@ same-length : tie.Need-same-length
 same-length c = search needs
 
 returns : tie.Need-returns
-returns c = let a = c .before .before .before .before .before .before .before .before .before .before .before .before .before .before .before .before .before .args in let l = laid-first (c .before .before .before .before .before .before .before .before .before .before .before .before .before .before .before .before .before) _ _ (c .before .before .before .before .before .before .before .show .ensures) in shown-answers (a .self) (a .maced) (a .inputs) (a .ins) (now (a .d)) (now (a .reply)) (c .before .before .before .before .before .before .before .before .before .before .before .before .before .before .before .before .before .pre .0) (c .on-channel .ensures ∙ ap (onChannel (a .self)) (c .before .before .before .before .before .before .before .before .before .counted .ensures)) (l .0) (rw (c .before .before .before .before .before .before .before .before .before .counted .ensures) at (c .before .before .before .seal .ensures))
+returns c = let a = c .before .before .before .before .before .before .before .before .before .before .before .before .before .before .before .before .before .args in let l = laid-first (c .before .before .before .before .before .before .before .before .before .before .before .before .before .before .before .before .before) _ _ (c .before .before .before .before .before .before .before .show .ensures) in shown-answers (a .self) (a .maced) (a .inputs) (a .ins) (a .role) (now (a .d)) (now (a .reply)) (c .before .before .before .before .before .before .before .before .before .before .before .before .before .before .before .before .before .pre .0) (c .on-channel .ensures ∙ ap (onChannel (a .self)) (c .before .before .before .before .before .before .before .before .before .counted .ensures)) (l .0) (rw (c .before .before .before .before .before .before .before .before .before .counted .ensures) at (c .before .before .before .seal .ensures))
 
 pub shown-spec : {M : Type 1} → statement M
 shown-spec =

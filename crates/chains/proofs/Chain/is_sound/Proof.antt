@@ -6,12 +6,15 @@ use borrow.Author.Needs.{needs}
 use Rattle.chains.proofs.Chain.is_sound.Statement.{statement}
 use Rattle.chains.proofs.Chain.is_sound.Tie as tie
 
+is-file-requires : tie.Need-is-file-requires
+is-file-requires c κs = tt
+
 returns : tie.Need-returns
 unfolding chainSound
-returns c = hit _ _ _ (eq-eqb _ _ (c .before .before .before .if1 .taken)) refl
+returns c = let f = c .before .before in hit _ _ _ (eq-eqb _ _ (f .before .if1 .taken)) (rw (f .is-file .ensures) refl)
 
 size-requires : tie.Need-size-requires
-size-requires c κs = search needs
+size-requires c κs = tt
 
 cast-end : tie.Need-cast-end
 cast-end c = search needs
@@ -23,13 +26,21 @@ add-end : tie.Need-add-end
 add-end c = search needs
 
 is-data-requires : tie.Need-is-data-requires
-is-data-requires c κs = search needs
+is-data-requires c κs = tt
 
 returns-2 : tie.Need-returns-2
 unfolding chainSound
-returns-2 c = skip _ _ _ (ne-eqb _ _ (c .before .before .before .before .before .if1 .left)) (rw (c .before .before .before .before .size .ensures, c .before .is-data .ensures) refl)
+returns-2 c = let s = c .before .before .before .before in skip _ _ _ (ne-eqb _ _ (s .before .if1 .left)) (rw (s .size .ensures, c .before .is-data .ensures) refl)
 
 pub is-sound-spec : {M : Type 1} → statement M
 is-sound-spec =
     tie.close
-    (tie.spec returns size-requires cast-end cast-end-2 add-end is-data-requires returns-2)
+    (tie.spec
+    is-file-requires
+    returns
+    size-requires
+    cast-end
+    cast-end-2
+    add-end
+    is-data-requires
+    returns-2)

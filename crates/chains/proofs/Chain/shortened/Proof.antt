@@ -15,15 +15,15 @@ returns : tie.Need-returns
 unfolding shortened
 returns c = hit _ _ _ (le-leb _ _ (c .before .if1 .taken)) (c .none .ensures)
 
-cast-t5 : tie.Need-cast-t5
-cast-t5 c = search needs
+cast-t6 : tie.Need-cast-t6
+cast-t6 c = search needs
 
-sub-t6 : tie.Need-sub-t6
-sub-t6 c = search needs
+sub-t7 : tie.Need-sub-t7
+sub-t7 c = search needs
 
 returns-2 : tie.Need-returns-2
 unfolding shortened
 returns-2 c = search choice
 
 pub shortened-spec : {M : Type 1} → statement M
-shortened-spec = tie.close (tie.spec cast-if1 none-requires returns cast-t5 sub-t6 returns-2)
+shortened-spec = tie.close (tie.spec cast-if1 none-requires returns cast-t6 sub-t7 returns-2)

@@ -3,14 +3,14 @@ use denote.Ref.{now}
 use Rattle.commands.proofs.Places.asked.Statement.{statement}
 use Rattle.commands.proofs.Places.asked.Tie as tie
 
-byte-at-requires : tie.Need-byte-at-requires
-byte-at-requires c κs = tt
+named-requires : tie.Need-named-requires
+named-requires c κs = tt
 
 acting-requires : tie.Need-acting-requires
 acting-requires c κs = tt
 
-access-to-requires : tie.Need-access-to-requires
-access-to-requires c κs = tt
+access-by-requires : tie.Need-access-by-requires
+access-by-requires c κs = tt
 
 is-maced-requires : tie.Need-is-maced-requires
 is-maced-requires c κs = tt
@@ -68,16 +68,16 @@ nothing-pending-requires c κs = tt
 
 returns : tie.Need-returns
 returns c =
-    let a = c .before .before .before .before .before .before .before .before .before .before .before .before .before .before .before .before .before .before .before .before .before .before .before .before .args in
-    asked-by (a .opening) (a .settings) (a .keys) (a .purse) (a .log) (a .channel) (a .ins) (now (a .x)) (c .before .before .before .before .before .before .before .before .before .before .before .before .before .before .before .before .before .before .before .before .before .byte-at .ensures) (c .before .before .before .before .before .before .before .before .before .before .before .before .before .before .before .before .before .before .before .before .acting .ensures) (c .before .before .before .before .before .before .before .before .before .before .before .before .before .before .before .before .before .before .before .access-to .ensures) (c .before .before .before .before .before .before .before .before .before .before .before .before .before .before .before .before .before .before .is-maced .ensures) (c .before .before .before .before .before .before .before .before .before .before .before .before .before .before .before .before .before .carries .ensures) (c .before .before .before .before .before .before .before .before .before .before .before .before .before .before .before .before .plain .ensures) (c .before .before .before .before .before .before .before .before .before .before .before .before .before .before .before .unknown-command .ensures) (c .before .before .before .before .before .before .before .before .before .before .before .before .before .before .interrupts .ensures) (c .before .before .before .before .before .before .before .before .before .before .before .before .before .wrong-length .ensures) (c .before .before .before .before .before .before .before .before .before .before .before .before .lacks-mac .ensures) (c .before .before .before .before .before .before .before .before .before .before .before .unknown-file .ensures) (c .before .before .before .before .before .before .before .before .before .before .other-kind-or-never .ensures) (c .before .before .before .before .before .before .before .before .before .not-granted .ensures) (c .before .before .before .before .before .before .before .before .part-fails .ensures) (c .before .before .before .before .before .before .before .is-forged .ensures) (c .before .before .before .before .before .before .used-up .ensures) (c .before .before .before .before .before .switched-off .ensures) (c .before .before .before .before .bad-parameter .ensures) (c .before .before .before .is-outside .ensures) (c .before .before .is-long-read .ensures) (c .nothing-pending .ensures)
+    let a = c .before .before .before .before .before .before .before .before .before .before .before .before .before .before .before .before .before .before .before .before .before .before .before .before .before .args in
+    asked-by (a .opening) (a .settings) (a .keys) (a .purse) (a .log) (a .channel) (a .ins) (now (a .x)) (c .before .before .before .before .before .before .before .before .before .before .before .before .before .before .before .before .before .before .before .before .before .before .named .ensures) (c .before .before .before .before .before .before .before .before .before .before .before .before .before .before .before .before .before .before .before .before .acting .ensures) (c .before .before .before .before .before .before .before .before .before .before .before .before .before .before .before .before .before .before .before .access-by .ensures) (c .before .before .before .before .before .before .before .before .before .before .before .before .before .before .before .before .before .before .is-maced .ensures) (c .before .before .before .before .before .before .before .before .before .before .before .before .before .before .before .before .before .carries .ensures) (c .before .before .before .before .before .before .before .before .before .before .before .before .before .before .before .before .plain .ensures) (c .before .before .before .before .before .before .before .before .before .before .before .before .before .before .before .unknown-command .ensures) (c .before .before .before .before .before .before .before .before .before .before .before .before .before .before .interrupts .ensures) (c .before .before .before .before .before .before .before .before .before .before .before .before .before .wrong-length .ensures) (c .before .before .before .before .before .before .before .before .before .before .before .before .lacks-mac .ensures) (c .before .before .before .before .before .before .before .before .before .before .before .unknown-file .ensures) (c .before .before .before .before .before .before .before .before .before .before .other-kind-or-never .ensures) (c .before .before .before .before .before .before .before .before .before .not-granted .ensures) (c .before .before .before .before .before .before .before .before .part-fails .ensures) (c .before .before .before .before .before .before .before .is-forged .ensures) (c .before .before .before .before .before .before .used-up .ensures) (c .before .before .before .before .before .switched-off .ensures) (c .before .before .before .before .bad-parameter .ensures) (c .before .before .before .is-outside .ensures) (c .before .before .is-long-read .ensures) (c .nothing-pending .ensures)
 
 pub asked-spec : {M : Type 1} → statement M
 asked-spec =
     tie.close
     (tie.spec
-    byte-at-requires
+    named-requires
     acting-requires
-    access-to-requires
+    access-by-requires
     is-maced-requires
     carries-requires
     plain-requires

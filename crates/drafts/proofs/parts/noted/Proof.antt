@@ -1,5 +1,5 @@
 use Rattle.held.specs.Held.{noted}
-use Rattle.lines.specs.Laws.{part-laid}
+use Rattle.wire.specs.Laws.{part-over-zeros}
 use native.Mathlib.Omega.{arith}
 use denote.Ref.{now}
 use borrow.Author.Needs.{needs}
@@ -26,7 +26,7 @@ lay-requires c κs = search needs
 
 returns : tie.Need-returns
 unfolding noted
-returns c = let a = c .before .before .before .before .before .before .args in let e = part-laid (now (a .b)) 16 20 (omega (arith, c .before .before .before .before .before .before .pre)) (c .before .lay .ensures) in λ i. record { random = c .before .before .before .before .sixteen .ensures i; identifier = e i; held = a .draft .held; key = a .draft .key; ti = a .draft .ti; counter = a .draft .counter }
+returns c = let a = c .before .before .before .before .before .before .args in let e = part-over-zeros (now (a .b)) 16 20 (omega (arith, c .before .before .before .before .before .before .pre)) (c .before .lay .ensures) in λ i. record { random = c .before .before .before .before .sixteen .ensures i; identifier = e i; held = a .draft .held; key = a .draft .key; ti = a .draft .ti; counter = a .draft .counter }
 
 pub noted-spec : {M : Type 1} → statement M
 noted-spec =

@@ -1,5 +1,5 @@
 use Rattle.drafts.specs.Drafts.{unread}
-use Rattle.text.specs.Adds.{shows-laid}
+use Rattle.wire.specs.Laws.{shows-whole}
 use mathlib.Core.Path.{refl}
 use borrow.Author.Needs.{needs}
 use Rattle.drafts.proofs.parts.put_unread.Statement.{statement}
@@ -16,7 +16,7 @@ same-length c = search needs
 
 returns : tie.Need-returns
 unfolding unread
-returns c = (refl, shows-laid _ _ _ _ refl (c .before .before .before .before .before .before .pre) (c .before .before .lay .ensures))
+returns c = (refl, shows-whole _ _ _ _ refl (c .before .before .before .before .before .before .pre) (c .before .before .lay .ensures))
 
 pub put-unread-spec : {M : Type 1} → statement M
 put-unread-spec = tie.close (tie.spec slice-aggregate-lay lay-requires same-length returns)

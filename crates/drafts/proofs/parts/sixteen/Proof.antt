@@ -1,4 +1,4 @@
-use Rattle.lines.specs.Laws.{part-laid}
+use Rattle.wire.specs.Laws.{part-over-zeros}
 use Rattle.wire.specs.Bytes.{part, laidIn}
 use lib.ListN.{replicate}
 use Prim.Native.Nat.{_+_, _-_}
@@ -31,7 +31,7 @@ returns : tie.Need-returns
 returns c =
     let a = c .before .before .before .before .before .args in
     let l : 16 ≡ a .at + 16 - a .at = omega arith in
-    part-laid (now (a .b)) (a .at) (a .at + 16) (c .before .before .before .before .before .pre) (c .before .lay .ensures ∙ ap (λ n. laidIn (replicate n 0) 0 (part (now (a .b)) (a .at) (a .at + 16))) l)
+    part-over-zeros (now (a .b)) (a .at) (a .at + 16) (c .before .before .before .before .before .pre) (c .before .lay .ensures ∙ ap (λ n. laidIn (replicate n 0) 0 (part (now (a .b)) (a .at) (a .at + 16))) l)
 
 pub sixteen-spec : {M : Type 1} → statement M
 sixteen-spec =

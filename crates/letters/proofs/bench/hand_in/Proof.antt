@@ -1,6 +1,6 @@
 use Rattle.notices.specs.Notices.{noticeText}
 use Rattle.letters.specs.Letters.{saidOf, inputsIn, handed}
-use Rattle.lines.specs.Laws.{part-laid}
+use Rattle.wire.specs.Laws.{part-over-zeros}
 use denote.Ref.{now}
 use native.Mathlib.Omega.{arith}
 use borrow.Author.Needs.{needs}
@@ -43,7 +43,7 @@ returns c =
     let r = c .before .before .before .before .before in
     let s = r .before .before .before .before in
     let b = now (s .args .b) in
-    rw (part-laid b 0 16 (omega (arith, s .pre)) (r .lay .ensures), part-laid b 16 20 (omega (arith, s .pre)) (c .before .lay2 .ensures))
+    rw (part-over-zeros b 0 16 (omega (arith, s .pre)) (r .lay .ensures), part-over-zeros b 16 20 (omega (arith, s .pre)) (c .before .lay2 .ensures))
 
 pub hand-in-spec : {M : Type 1} → statement M
 hand-in-spec =

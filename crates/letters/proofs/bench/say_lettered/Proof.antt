@@ -26,7 +26,7 @@ module _ (k : tie.After-spell) where
   rest = now (start .args .rest)
 
   there : (part (k .spell .last .1 .0) 0 (k .spell .result) ≡ leading rest) × (k .spell .result ≡ length (leading rest)) × (k .spell .result ≤ length (k .spell .last .1 .0))
-  there = spelt-there rest (replicate 104 0) _ _ (omega (arith, k .before .before .if2 .left)) (k .spell .ensures)
+  there = spelt-there rest (replicate 109 0) _ _ (omega (arith, k .before .before .if2 .left)) (k .spell .ensures)
 
 say-chained-requires : tie.Need-say-chained-requires
 say-chained-requires c κs = (c .if1 .taken, c .before .before .pre)
