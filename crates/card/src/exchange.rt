@@ -111,9 +111,9 @@ impl Card {
         let log = self.log;
         let channel = self.channel;
         let next = channel.counted();
+        let card = self.on_channel(next);
         let n = replies::show(settings, files, purse, log, ins, role, d, reply);
         let len = Card::seal(next, maced, n, reply);
-        let card = self.on_channel(next);
         Reply {
             card,
             refusal: 0,

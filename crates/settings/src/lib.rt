@@ -10,8 +10,8 @@ ghost use Rattle.settings.specs.Settings.{unchosen, absent, alike, fileA
 
 // Of one file: its number, its rights, and whether it is in MAC mode; else it is plain.
 pub struct FileSettings {
-    pub number: u8,
     pub rights: u16,
+    pub number: u8,
     pub maced: bool,
 }
 
@@ -160,12 +160,19 @@ impl Settings {
     pub fn has_wrong_rights(self) -> bool
         ensures { λ r. ⌜ r ≡ rightsBroken self ⌝ }
     {
-        let first = access::rights_are_sound(self.first.rights);
-        let second = access::rights_are_sound(self.second.rights);
-        let short = access::rights_are_sound(self.short.rights);
-        let value = access::rights_are_sound(self.value.rights);
-        let log = access::rights_are_sound(self.log.rights);
-        !first | !second | !short | !value | !log
+        if !access::rights_are_sound(self.first.rights) {
+            return true;
+        }
+        if !access::rights_are_sound(self.second.rights) {
+            return true;
+        }
+        if !access::rights_are_sound(self.short.rights) {
+            return true;
+        }
+        if !access::rights_are_sound(self.value.rights) {
+            return true;
+        }
+        !access::rights_are_sound(self.log.rights)
     }
 
     // Whether a file's number is above 1Fh.

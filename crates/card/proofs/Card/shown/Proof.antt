@@ -30,22 +30,34 @@ laid-first s after n h =
 counted-requires : tie.Need-counted-requires
 counted-requires c κs = tt
 
+on-channel-requires : tie.Need-on-channel-requires
+on-channel-requires c κs = tt
+
 show-requires : tie.Need-show-requires
 show-requires c κs = tt
 
 seal-requires : tie.Need-seal-requires
-seal-requires c κs = let l = laid-first (c .before .before .before .before .before .before .before .before .before .before .before .before .before) _ _ (c .before .before .before .show .ensures) in (l .1, omega (arith, l .1, l .2))
-
-on-channel-requires : tie.Need-on-channel-requires
-on-channel-requires c κs = tt
+seal-requires c κs =
+    let shown = c .before .before .before in
+    let start = shown .before .before .before .before .before .before .before .before .before .before .before in
+    let l = laid-first start _ _ (shown .show .ensures) in
+    (l .1, omega (arith, l .1, l .2))
 
 same-length : tie.Need-same-length
 same-length c = search needs
 
 returns : tie.Need-returns
-returns c = let a = c .before .before .before .before .before .before .before .before .before .before .before .before .before .before .before .before .before .args in let l = laid-first (c .before .before .before .before .before .before .before .before .before .before .before .before .before .before .before .before .before) _ _ (c .before .before .before .before .before .before .before .show .ensures) in shown-answers (a .self) (a .maced) (a .inputs) (a .ins) (a .role) (now (a .d)) (now (a .reply)) (c .before .before .before .before .before .before .before .before .before .before .before .before .before .before .before .before .before .pre .0) (c .on-channel .ensures ∙ ap (onChannel (a .self)) (c .before .before .before .before .before .before .before .before .before .counted .ensures)) (l .0) (rw (c .before .before .before .before .before .before .before .before .before .counted .ensures) at (c .before .before .before .seal .ensures))
+returns c =
+    let sealed = c .before .before in
+    let shown = sealed .before .before .before .before in
+    let counted = shown .before .before .before in
+    let start = counted .before .before .before .before .before .before .before .before in
+    let a = start .args in
+    let l = laid-first start _ _ (shown .show .ensures) in
+    shown-answers (a .self) (a .maced) (a .inputs) (a .ins) (a .role) (now (a .d)) (now (a .reply)) (start .pre .0) (shown .before .before .on-channel .ensures ∙ ap (onChannel (a .self)) (counted .counted .ensures)) (l .0)
+    (rw (counted .counted .ensures) at (sealed .seal .ensures))
 
 pub shown-spec : {M : Type 1} → statement M
 shown-spec =
     tie.close
-    (tie.spec counted-requires show-requires seal-requires on-channel-requires same-length returns)
+    (tie.spec counted-requires on-channel-requires show-requires seal-requires same-length returns)
