@@ -8,6 +8,10 @@ use Rattle.access.specs.declared.Session.the-variants.{Nobody, Key}
 use Rattle.access.specs.declared.Access.{Access}
 use Rattle.access.specs.declared.Access.the-variants.{Never, NotGranted, FreeOnly, ByKey}
 
+-- the last key's number
+abbrev pub lastKey : ℕ
+lastKey = 4
+
 abbrev pub free : ℕ
 free = 0xE
 
@@ -30,7 +34,7 @@ changeOf x = x % 16
 
 -- no nibble is 5 to Dh
 abbrev pub nibbleSound : ℕ → Bool
-nibbleSound n = leb n 4 || leb free n
+nibbleSound n = leb n lastKey || leb free n
 
 unfoldable pub rightsSound : ℕ → Bool
 rightsSound x = nibbleSound (readOf x) && nibbleSound (writeOf x) && nibbleSound (readWriteOf x) && nibbleSound (changeOf x)
@@ -45,7 +49,7 @@ keyOf (Key k) = k
 -- none, or a key 0 to 4
 abbrev pub sessionSound : Session → Bool
 sessionSound Nobody = true
-sessionSound (Key k) = leb k 4
+sessionSound (Key k) = leb k lastKey
 
 -- ---- the decision, where Read grants if byRead, Write if byWrite, and ReadWrite always
 

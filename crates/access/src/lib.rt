@@ -15,6 +15,11 @@ pub enum Access {
     ByKey,
 }
 
+// The last key's number, and the nibble that is free.
+pub const LAST_KEY: u8 = 4;
+
+const FREE: u8 = 0xE;
+
 fn read_of(x: u16) -> u8
     ensures { λ r. ⌜ r ≡ readOf x ⌝ }
 {
@@ -42,7 +47,7 @@ fn change_of(x: u16) -> u8
 fn nibble_is_sound(n: u8) -> bool
     ensures { λ r. ⌜ r ≡ nibbleSound n ⌝ }
 {
-    (n <= 4) | (0xE <= n)
+    (n <= LAST_KEY) | (FREE <= n)
 }
 
 // Whether no nibble of a file's rights is 5 to Dh.
@@ -110,7 +115,7 @@ impl Session {
     {
         match self {
             Session::Nobody => true,
-            Session::Key(k) => k <= 4,
+            Session::Key(k) => k <= LAST_KEY,
         }
     }
 }

@@ -13,7 +13,7 @@ use native.Mathlib.Omega.{arith}
 use Rattle.tables.specs.Choice.{pick, none, picked, passed, pick-both, pick-alike, pick-cases, or-no}
 use Rattle.wire.specs.Bytes.{four, outsideOf, word}
 use Rattle.roles.specs.declared.Role.{Role}
-use Rattle.roles.specs.Roles.{sizeOf}
+use Rattle.roles.specs.Roles.{longSize, sizeOf}
 use Rattle.datafiles.specs.declared.Files.{Files}
 use Rattle.datafiles.specs.Files as files
 use Rattle.datafiles.specs.Laws as datafiles
@@ -38,14 +38,15 @@ use Rattle.channel.specs.Channel.{counted}
 use Rattle.description.specs.Description.{described, describedIn}
 use Rattle.description.specs.Laws.{described-small}
 use Rattle.rows.specs.State.{Core, State}
-use Rattle.rows.specs.Rows.{outside, longRead, ok}
+use Rattle.modes.specs.Modes.{macSize}
+use Rattle.rows.specs.Rows.{outside, macedRead, longRead, ok}
 use Rattle.rows.specs.Laws.{read-inside, entries-inside, credit-inside, debit-inside, rebook-inside}
 use Rattle.standing.specs.Parts.{logBroken}
 use Rattle.effects.specs.Effects.{purseAfter, journalAfter, storedAfter, filesAfter}
 use Rattle.effects.specs.Guarded.{purseIn}
 use Rattle.replies.specs.Replies.{shownOf}
 use Rattle.replies.specs.Guarded.{valueIn, shownIn}
-use Rattle.card.specs.Events.{channelAfter, changed, shown, macBehind, acceptedStatus, acceptedPlain}
+use Rattle.card.specs.Events.{channelAfter, changed, shown, macBehind, acceptedStatus, acceptedPlain, dataRoom}
 
 -- what an accepted command's data field d is known to be, where m says that a MAC came off it, and r is the role of the file that it names
 abbrev pub Granted : Core → Bool → ℕ → Role → List ℕ → Type 0
@@ -88,7 +89,7 @@ module _ (l : Limits) (p : Purse) (n : ℕ) (r : Role) (d : List ℕ) where
 
 -- ---- what is shown
 
-module _ (room : ℕ) (s : State) (l : Log) (r : Role) (d : List ℕ) (j : s .core .journal ≡ log.view l) (k : 256 ≤ room) (b : logBroken l ≡ false) where
+module _ (room : ℕ) (s : State) (l : Log) (r : Role) (d : List ℕ) (j : s .core .journal ≡ log.view l) (k : longSize ≤ room) (b : logBroken l ≡ false) where
   value-shown : (v : ℤ) → valueIn room v ≡ four (ofZ w32 v)
   unfolding valueIn
   value-shown v = passed _ _ (le-ltb room 4 (omega arith))
@@ -122,22 +123,22 @@ module _ (room : ℕ) (s : State) (l : Log) (r : Role) (d : List ℕ) (j : s .co
 
 -- a read in MAC mode leaves room for its MAC
 read-room : (m : Bool) (f : Files) (r : Role) (d : List ℕ) → outsideOf (sizeOf r) (offsetOf d) (lengthOf d) ≡ false → longRead m readData r d ≡ false
-    → length (files.shown f r (offsetOf d) (lengthOf d)) + pick m 8 0 ≤ 256
+    → length (files.shown f r (offsetOf d) (lengthOf d)) + pick m macSize 0 ≤ dataRoom
 unfolding longRead pick files.shown
 read-room false f r d o h = omega (arith, datafiles.shown-small f r (offsetOf d) (lengthOf d) o)
 read-room true f r d o h =
     let n = files.endOf (sizeOf r) (offsetOf d) (lengthOf d) in
-    let k = ltb-false 248 (n - offsetOf d) h in
+    let k = ltb-false macedRead (n - offsetOf d) h in
     omega (arith, length-take (n - offsetOf d) (drop (offsetOf d) (files.bytesOf f r)))
 
--- a reply's data and its MAC are at most 256 bytes
-pub shown-small : (m : Bool) (s : State) (i : ℕ) (r : Role) (d : List ℕ) → Fit (s .core .journal) → Granted (s .core) m i r d → length (baseShown s i r d) + pick m 8 0 ≤ 256
+-- a reply's data and its MAC leave room for the status
+pub shown-small : (m : Bool) (s : State) (i : ℕ) (r : Role) (d : List ℕ) → Fit (s .core .journal) → Granted (s .core) m i r d → length (baseShown s i r d) + pick m macSize 0 ≤ dataRoom
 unfolding shownOf
 shown-small m s i r d fit (o, h) =
     let c = s .core in
     let l = c .settings .limits in
-    let small : pick m 8 0 ≤ 8 = pick-both (λ n. n ≤ 8) m 8 0 (omega arith) (omega arith) in
-    let Small : List ℕ → Type 0 = λ x. length x + pick m 8 0 ≤ 256 in
+    let small : pick m macSize 0 ≤ macSize = pick-both (λ n. n ≤ macSize) m macSize 0 (omega arith) (omega arith) in
+    let Small : List ℕ → Type 0 = λ x. length x + pick m macSize 0 ≤ dataRoom in
     pick-cases Small _ _ _ (λ t. read-room m (s .files) r d (read-inside l (c .purse) _ r d (at l (c .purse) _ r d i readData o t)) (subst (λ (j : ℕ). longRead m j r d ≡ false) (eqb-true i readData t) h))
     (λ _. pick-cases Small _ _ _ (λ t. omega arith)
     (λ _. pick-cases Small _ _ _ (λ t. omega (arith, shown-room (c .journal) (offsetOf d) (lengthOf d) fit))

@@ -1,5 +1,5 @@
 -- The events: personalisation, a command, the opening of a chain, a frame of file bytes, a session change, a power-up.
-use Prim.Native.Nat.{ℕ}
+use Prim.Native.Nat.{ℕ, _-_}
 use mathlib.Core.List.{List, [], _++_}
 use mathlib.Core.Bool.{Bool, not, false}
 use lib.Dec.{ltb, eqb}
@@ -127,6 +127,10 @@ laidInto c p = record { card = put c (p .stored) (p .state); refusal = 0; stored
 -- the room that every reply has in its buffer
 abbrev pub replyRoom : ℕ
 replyRoom = 258
+
+-- what data and MAC have of it: the status is two bytes
+abbrev pub dataRoom : ℕ
+dataRoom = replyRoom - 2
 
 -- the bench refusal of an event with a reply buffer of room bytes, or 0
 unfoldable pub benchRefusal : Bool → ℕ → ℕ

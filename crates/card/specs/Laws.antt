@@ -33,7 +33,7 @@ use Rattle.columns.specs.Table.{writeData, authenticateFirst, authenticateSecon
 use Rattle.frames.specs.Frame.{insOf, dataOf}
 use Rattle.settings.specs.declared.Settings.{Settings}
 use Rattle.rows.specs.State.{State}
-use Rattle.modes.specs.Modes.{roleIn, plainOf}
+use Rattle.modes.specs.Modes.{roleIn, macSize, plainOf}
 use Rattle.rows.specs.Rows.{wrongLength, outside, ok, macedIn, statusOf, commandStatus, openingStatus, bytesStatus}
 use Rattle.rows.specs.Laws.{command-ok, inside, long-enough, first-plain, second-plain, second-length}
 use Rattle.effects.specs.Effects.{purseAfter, journalAfter, storedAfter, filesAfter}
@@ -45,7 +45,7 @@ use Rattle.card.specs.View.{view, put, broken, onChannel}
 use Rattle.standing.specs.Parts.{logBroken, log-few, parted}
 use Rattle.card.specs.Outcome.{Outcome, replyOf, Answered, bench}
 use Rattle.standing.specs.Rules.{orderRefusal}
-use Rattle.card.specs.Events.{channelAfter, changed, shown, macBehind, acceptedStatus, ended, Played, refused, acceptedPlain, accepted, judged, played, laidInto, replyRoom, benchRefusal, benched, commanded, opening, openingPlayed, chainOpened, delivered, bytesPlayed, bytesSent, withSession, sessionChanged, poweredUp, issued, blank, personalised}
+use Rattle.card.specs.Events.{channelAfter, changed, shown, macBehind, acceptedStatus, ended, Played, refused, acceptedPlain, accepted, judged, played, laidInto, replyRoom, dataRoom, benchRefusal, benched, commanded, opening, openingPlayed, chainOpened, delivered, bytesPlayed, bytesSent, withSession, sessionChanged, poweredUp, issued, blank, personalised}
 use Rattle.card.specs.Accepted.{Granted, baseShown, purse-inside, shown-accepted, shown-small, base-channel, base-accepted, shows-changes-nothing, quiet-shows-nothing}
 use Rattle.card.specs.Sealing.{Sealed, sealed-shows}
 
@@ -87,7 +87,7 @@ shows-answers c {t = t} s x b ek (e, l) = ((λ i. replyStoring t (ek i) 0 (l i))
 -- what an accepted command lays at the front is its data, with room for the MAC and the status
 pub accepted-shows : (c : Card) (m : Bool) (i : ℕ) (r : Role) (d b b₁ : List ℕ) (n : ℕ) → Granted (view c .core) m i r d → broken c ≡ false → replyRoom ≤ length b
     → length (c .log .slots) ≡ 64 → length (c .log .entry) ≡ 16 → Shows (shownIn (length b) (c .settings) (c .files) (c .purse) (c .log) i r d) b b₁ n
-    → Shows (baseShown (view c) i r d) b b₁ n × (n + pick m 8 0 ≤ 256)
+    → Shows (baseShown (view c) i r d) b b₁ n × (n + pick m macSize 0 ≤ dataRoom)
 unfolding view
 accepted-shows c m i r d b b₁ n g sound room ls le s =
     let u = log-unbroken c sound in

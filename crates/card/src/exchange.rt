@@ -11,10 +11,11 @@ ghost use Prim.Native.Nat.{_+_, _≤_};
 ghost use lib.ListN.{length};
 ghost use Rattle.tables.specs.Choice.{pick};
 ghost use Rattle.wire.specs.Bytes.{laidIn, word};
+ghost use Rattle.modes.specs.Modes.{macSize};
 ghost use Rattle.columns.specs.Table.{shows, authenticateFirst, authenticateSecond};
 ghost use Rattle.card.specs.View.{view, broken};
 ghost use Rattle.card.specs.Outcome.{Answered};
-ghost use Rattle.card.specs.Events.{acceptedPlain, laidInto, replyRoom, commanded};
+ghost use Rattle.card.specs.Events.{acceptedPlain, laidInto, replyRoom, dataRoom, commanded};
 ghost use Rattle.card.specs.Accepted.{Granted};
 ghost use Rattle.card.specs.Sealing.{Sealed};
 
@@ -31,7 +32,7 @@ impl Card {
 
     // Lays the status behind n bytes of reply, and answers the length of them all.
     fn close(status: u16, n: usize, reply: &mut [u8]) -> usize
-        requires { ⌜ n ≤ 256 ⌝ }
+        requires { ⌜ n ≤ dataRoom ⌝ }
         ensures { λ r. ⌜ (now (reply .exit) ≡ laidIn (now (reply .entry)) n (word status)) × (r ≡ n + 2) ⌝ }
     {
         let two = wire::word_of(status);
@@ -41,7 +42,7 @@ impl Card {
 
     // Lays behind the n bytes of data their MAC, if the command had one, and 9100.
     fn seal(channel: Channel, maced: bool, n: usize, reply: &mut [u8]) -> usize
-        requires { ⌜ (n + pick maced 8 0 ≤ 256) × (replyRoom ≤ length (now reply)) ⌝ }
+        requires { ⌜ (n + pick maced macSize 0 ≤ dataRoom) × (replyRoom ≤ length (now reply)) ⌝ }
         ensures { λ r. ⌜ Sealed channel maced n (now (reply .entry)) (now (reply .exit)) r ⌝ }
     {
         if maced {
@@ -50,7 +51,7 @@ impl Card {
             let ti = channel.ti;
             let mac = sealing::seal(secret, 0x00, stage.counter(), ti, &reply[0..n]);
             wire::lay(reply, n, &mac);
-            return Card::close(Card::OK, n + 8, reply);
+            return Card::close(Card::OK, n + modes::MAC_SIZE, reply);
         }
         Card::close(Card::OK, n, reply)
     }

@@ -6,6 +6,7 @@ use lib.ListN.{replicate}
 use Rattle.tables.specs.Choice.{pick}
 use Rattle.access.specs.declared.Session.{Session}
 use Rattle.access.specs.declared.Session.the-variants.{Nobody, Key}
+use Rattle.access.specs.Rights.{lastKey}
 use Rattle.chains.specs.declared.Chain.{Chain}
 use Rattle.chains.specs.Chain.{unchained, completes, shortened}
 use Rattle.channel.specs.declared.Stage.{Stage}
@@ -24,12 +25,16 @@ actingOf (Bench k) = Key k
 actingOf (Waiting k) = Nobody
 actingOf (Real k n) = Key k
 
--- its key is 0 to 4; a real session and a waiting first part never hold together, by the type
+-- the key that it names; 0 without one
+abbrev pub named : Stage → ℕ
+named Closed = 0
+named (Bench k) = k
+named (Waiting k) = k
+named (Real k n) = k
+
+-- it is 0 to 4; a real session and a waiting first part never hold together, by the type
 abbrev pub stageSound : Stage → Bool
-stageSound Closed = true
-stageSound (Bench k) = leb k 4
-stageSound (Waiting k) = leb k 4
-stageSound (Real k n) = leb k 4
+stageSound g = leb (named g) lastKey
 
 -- a first part waits for its second
 abbrev pub isWaiting : Stage → Bool
@@ -59,7 +64,11 @@ counterOf (Bench k) = 0
 counterOf (Waiting k) = 0
 counterOf (Real k n) = n
 
--- an accepted command in a real session moves the counter up by one, in its two bytes; at FFFFh none is accepted
+-- the last that its two bytes can tell
+abbrev pub lastCount : ℕ
+lastCount = 0xFFFF
+
+-- an accepted command in a real session moves it up by one; at the last none is accepted
 abbrev pub countedUp : Stage → Stage
 countedUp Closed = Closed
 countedUp (Bench k) = Bench k

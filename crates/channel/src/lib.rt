@@ -2,8 +2,8 @@
 use access::Session;
 use chains::Chain;
 ghost use mathlib.Core.Path.{_≡_};
-ghost use Rattle.channel.specs.Named.{named, acts};
-ghost use Rattle.channel.specs.Channel.{stageOf, actingOf, stageSound, isWaiting, stageKey, counterOf, countedUp, bare, counted, chained, advanced};
+ghost use Rattle.channel.specs.Named.{acts};
+ghost use Rattle.channel.specs.Channel.{stageOf, actingOf, named, stageSound, isWaiting, stageKey, counterOf, countedUp, bare, counted, chained, advanced};
 
 // No session; one of the bench, with its key; a first part of AuthenticateEV2First that waits for its second, with its key;
 // a real session, with its key and command counter.
@@ -58,7 +58,7 @@ impl Stage {
         ensures { λ r. ⌜ r ≡ stageSound self ⌝ }
     {
         let key = self.named();
-        key <= 4
+        key <= access::LAST_KEY
     }
 
     // The key that it names; 0 without one. All ways to a key lie at one place, so that no table of jumps is made of them.

@@ -3,7 +3,6 @@ pub mod Names
 pub mod Sound
 pub mod Steps
 pub mod Stored
-pub mod Inside
 pub mod Chained
 pub mod Induct
 pub mod Posting
@@ -15,5 +14,4 @@ pub mod FirstRow
 pub mod Issued
 pub mod Room
 pub mod Clean
-pub mod Framed
 pub mod Exchanged

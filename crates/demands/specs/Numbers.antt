@@ -2,14 +2,14 @@
 -- addressed prove it.
 use Prim.Native.Nat.{ℕ}
 use mathlib.Core.Bool.{Bool, true, false}
-use mathlib.Core.List.{List, [], _∷_, _++_, map}
+use mathlib.Core.List.{List, [], _∷_, map}
 use mathlib.Core.Path.{_≡_}
 use lib.ListN.{length, take, drop}
 use Rattle.roles.specs.declared.Role.{Role}
 use Rattle.access.specs.declared.Session.{Session}
 use Rattle.access.specs.Rights.{sessionSound}
 use Rattle.channel.specs.declared.Inputs.{Inputs}
-use Rattle.frames.specs.Frame.{insOf, dataOf, leOf}
+use Rattle.frames.specs.Frame.{insOf, dataOf, leOf, framed}
 use Rattle.columns.specs.Table.{namesFile}
 use Rattle.settings.specs.declared.Settings.{Settings}
 use Rattle.settings.specs.Settings.{fileAt, rightsOf, macFile}
@@ -115,7 +115,7 @@ Renumbered = (c d : Card) → Kept c → Kept d → Alike c d → (ps : List Pai
 
 -- the frame of the command i for the file of role r, with t behind the number
 abbrev pub forRole : Card → Role → ℕ → List ℕ → List ℕ
-forRole c r i t = 0x90 ∷ i ∷ 0x00 ∷ 0x00 ∷ length (fileAt (c .settings) r .number ∷ t) ∷ fileAt (c .settings) r .number ∷ t ++ 0x00 ∷ []
+forRole c r i t = framed i (fileAt (c .settings) r .number ∷ t)
 
 -- its frames for the two cards fit together, plain or with the MAC of the session that both are in
 pub record Addressed (c d : Card) (r : Role) (i : ℕ) (t : List ℕ) : Type 0 where

@@ -12,7 +12,8 @@ use Rattle.keys.specs.Keys.{keyAt}
 use Rattle.channel.specs.declared.Inputs.{Inputs}
 use Rattle.channel.specs.declared.Stage.the-variants.{Bench, Real}
 use Rattle.chains.specs.Chain.{isOpen}
-use Rattle.channel.specs.Channel.{isWaiting, counterOf, bare, chained}
+use Rattle.access.specs.Rights.{lastKey}
+use Rattle.channel.specs.Channel.{isWaiting, counterOf, lastCount, bare, chained}
 use Rattle.sealing.specs.Sealing.{sealOf}
 use Rattle.derivation.specs.Derivation.{macKey}
 use Rattle.frames.specs.Frame.{insOf, dataOf, lrpIn}
@@ -42,7 +43,7 @@ onBench c k = onChannel c (chained (bare (Bench k)) (c .channel .chain))
 -- the card c under a real session with the key k, at command counter n
 pub record SealedAsPlain (c : Card) (k n : ℕ) (f : List ℕ) (u : Inputs) : Type 0 where
   pub accepted : (statusOf (view c .core) (macedFrame c f) ≡ ok)
-      ↔ ((statusOf (view (onBench c k) .core) f ≡ ok) × (n ≡ 0xFFFF → ⊥) × (longRead true (insOf f) (roleIn (c .settings) (dataOf f)) (dataOf f) ≡ false))
+      ↔ ((statusOf (view (onBench c k) .core) f ≡ ok) × (n ≡ lastCount → ⊥) × (longRead true (insOf f) (roleIn (c .settings) (dataOf f)) (dataOf f) ≡ false))
   -- and where it is accepted:
   pub files : statusOf (view c .core) (macedFrame c f) ≡ ok → sends c (macedFrame c f) u .card .files ≡ sends (onBench c k) f u .card .files
   pub purse : statusOf (view c .core) (macedFrame c f) ≡ ok → sends c (macedFrame c f) u .card .purse ≡ sends (onBench c k) f u .card .purse
@@ -106,6 +107,6 @@ module _ (c : Card) (k : ℕ) (a caps : List ℕ) (u u′ : Inputs) where
     pub proved : knowsUs key a r ≡ true
 
 abbrev pub Terminals : Type 0
-Terminals = (c : Card) → Kept c → isWaiting (c .channel .stage) ≡ false → isOpen (c .channel .chain) ≡ false → (k : ℕ) → k ≤ 4 → Block (keyAt (c .keys) k)
+Terminals = (c : Card) → Kept c → isWaiting (c .channel .stage) ≡ false → isOpen (c .channel .chain) ≡ false → (k : ℕ) → k ≤ lastKey → Block (keyAt (c .keys) k)
     → (a : List ℕ) → Block a → (caps : List ℕ) → Bytes caps → length caps ≤ 253 → (lrpIn (k ∷ length caps ∷ caps) ≡ 1 → ⊥)
     → (u u′ : Inputs) → Block (u .random) → Sized 4 (u .ti) → LetIn c k a caps u u′

@@ -1,7 +1,7 @@
 -- The parts of a frame: CLA, INS, P1, P2, then Le alone, or Lc, the data field from byte 5 on, and Le.
 use Prim.Native.Nat.{ℕ, _+_, _-_, _/_, _%_}
 use mathlib.Core.Bool.{Bool, not, _&&_, _||_}
-use mathlib.Core.List.{List}
+use mathlib.Core.List.{List, [], _∷_, _++_}
 use lib.Dec.{ltb, leb, eqb}
 use lib.ListN.{length, getD}
 use Rattle.wire.specs.Bytes.{part, le3, le4}
@@ -27,6 +27,10 @@ leOf f = getD f (length f - 1) 0
 -- from byte 5 up to Le: empty in a frame of 5 bytes or fewer
 abbrev pub dataOf : List ℕ → List ℕ
 dataOf f = part f 5 (length f - 1)
+
+-- the frame of the INS i with the data field d
+abbrev pub framed : ℕ → List ℕ → List ℕ
+framed i d = 0x90 ∷ i ∷ 0x00 ∷ 0x00 ∷ length d ∷ d ++ 0x00 ∷ []
 
 -- ---- the parameters in a data field
 

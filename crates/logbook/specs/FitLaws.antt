@@ -24,10 +24,11 @@ fit-view l few s e =
       fresh-one = pick-both (λ (fs : List (List ℕ)). length fs ≤ 1) (l .adds) (l .entry ∷ []) [] (omega arith) (omega arith);
     }
 
-length-fresh : (fs : List (List ℕ)) → Sixteens fs → length (freshOr blank fs) ≡ 16
-unfolding freshOr blank
-length-fresh [] h = refl
-length-fresh (f ∷ fs) (h, hs) = h
+-- the new entry, or e where there is none
+pub length-fresh : (e : List ℕ) (fs : List (List ℕ)) → length e ≡ 16 → Sixteens fs → length (freshOr e fs) ≡ 16
+unfolding freshOr
+length-fresh e [] l h = l
+length-fresh e (f ∷ fs) l (h, hs) = h
 
 pub fit-written : (j : Journal) (off : ℕ) (bytes : List ℕ) → Fit j → Fit (written j off bytes)
 unfolding written
@@ -35,7 +36,7 @@ fit-written j off bytes f =
     record {
       sized = f .sized;
       few = f .few;
-      fresh-sized = (length-laidIn (freshOr blank (j .fresh)) off bytes ∙ length-fresh (j .fresh) (f .fresh-sized), tt);
+      fresh-sized = (length-laidIn (freshOr blank (j .fresh)) off bytes ∙ length-fresh blank (j .fresh) (unfold blank in refl) (f .fresh-sized), tt);
       fresh-one = omega arith;
     }
 

@@ -12,15 +12,15 @@ use Rattle.roles.specs.Roles.{sizeOf}
 use Rattle.datafiles.specs.Files.{endOf}
 use Rattle.columns.specs.Table.{readData}
 use Rattle.frames.specs.Frame.{offsetOf, lengthOf}
-use Rattle.rows.specs.Rows.{longRead}
+use Rattle.rows.specs.Rows.{macedRead, longRead}
 
--- more than 248 bytes, counted from the offset
-past : (off end : ℕ) → ltb (off + 248) end ≡ ltb 248 (end - off)
-past off end = by (ltb 248 (end - off)) refl
+-- more than n bytes, counted from the offset
+past : (n off end : ℕ) → ltb (off + n) end ≡ ltb n (end - off)
+past n off end = by (ltb n (end - off)) refl
   where
-    by : (b : Bool) → ltb 248 (end - off) ≡ b → ltb (off + 248) end ≡ b
-    by true e = let h = ltb-true 248 (end - off) e in lt-ltb (off + 248) end (omega arith)
-    by false e = let h = ltb-false 248 (end - off) e in le-ltb (off + 248) end (omega arith)
+    by : (b : Bool) → ltb n (end - off) ≡ b → ltb (off + n) end ≡ b
+    by true e = let h = ltb-true n (end - off) e in lt-ltb (off + n) end (omega arith)
+    by false e = let h = ltb-false n (end - off) e in le-ltb (off + n) end (omega arith)
 
 module _ (m : Bool) (i : ℕ) (r : Role) (d : List ℕ) where
   pub long-other : (i ≡ readData → ⊥) → false ≡ longRead m i r d
@@ -32,6 +32,6 @@ module _ (m : Bool) (i : ℕ) (r : Role) (d : List ℕ) where
   long-plain e = sym (and-right (eqb i readData) _ (and-left m _ (not-true m e)))
 
   pub long-by : {off len end : ℕ} → i ≡ readData → m ≡ true → off ≡ offsetOf d → len ≡ lengthOf d → end ≡ endOf (sizeOf r) off len
-      → ltb (off + 248) end ≡ longRead m i r d
+      → ltb (off + macedRead) end ≡ longRead m i r d
   unfolding longRead
-  long-by {off} {end = end} ei em eo el ee = past off end ∙ rw (ei, em, ee, el, eo) refl
+  long-by {off} {end = end} ei em eo el ee = past macedRead off end ∙ rw (ei, em, ee, el, eo) refl

@@ -29,7 +29,7 @@ fn is_no_key(d: &[u8]) -> bool
 {
     let key = wire::byte_at(d, 0);
     let caps = wire::byte_at(d, 2);
-    (4 < key) | (caps / 2 % 2 == 1)
+    (access::LAST_KEY < key) | (caps / 2 % 2 == 1)
 }
 
 // A command's own parameter is read for that command alone: a read of four bytes with its bounds costs more than the choice.

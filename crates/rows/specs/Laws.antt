@@ -1,8 +1,8 @@
--- What status 9100 says of the rows, for each command that a row tests; and what is pending on the log.
+-- What status 9100 says of the rows, for each command that a row tests; which MAC is right; and what is pending on the log.
 use Prim.Native.Nat.{ℕ}
 use mathlib.Core.Bool.{Bool, true, false, not, _&&_, _||_}
-use mathlib.Core.List.{List, [], _∷_}
-use mathlib.Core.Path.{_≡_, refl, sym, _∙_}
+use mathlib.Core.List.{List, [], _∷_, _++_}
+use mathlib.Core.Path.{_≡_, refl, sym, ap, _∙_}
 use borrow.Author.Tests.{not-false, eqb-true}
 use lib.Dec.{eqb, ltb}
 use lib.ListN.{length, drop, take}
@@ -10,6 +10,7 @@ use lib.IntN.{pos, _+ℤ_, _-ℤ_}
 use Rattle.tables.specs.Choice.{pick, none, or-no, and-right}
 use Rattle.tables.specs.Reasons.{NoReason, no-reason, first-passes}
 use Rattle.wire.specs.Bytes.{outsideOf}
+use Rattle.wire.specs.Same.{same-equal}
 use Rattle.roles.specs.declared.Role.{Role}
 use Rattle.roles.specs.Roles.{sizeOf}
 use Rattle.limits.specs.declared.Limits.{Limits}
@@ -22,9 +23,13 @@ use Rattle.frames.specs.Frame.{insOf, dataOf, offsetOf, lengthOf, amountOf}
 use Rattle.columns.specs.Table.{readData, writeData, credit, debit, limitedCredit, readRecords, writeRecord, getFileSettings, authenticateFirst, authenticateSecond, onFile}
 use Rattle.rows.specs.State.{Core, logPending}
 use Rattle.chains.specs.Chain.{isOpen}
-use Rattle.channel.specs.Channel.{isReal, isWaiting}
+use Rattle.channel.specs.declared.Channel.{Channel}
+use Rattle.channel.specs.Channel.{isReal, isWaiting, counterOf}
+use Rattle.sealing.specs.Sealing.{sealOf}
+use Rattle.sealing.specs.Laws.{length-seal}
 use Rattle.modes.specs.Modes.{roleIn, macedUnder, plainOf}
-use Rattle.rows.specs.Rows.{unknownCommand, interrupts, lengthCases, wrongLength, lacksMac, otherKindOrNever, notGranted, partFails, switchedOff, parameterCases, ranged, roomOf, amountCases, outside, longRead, nothingPending, macedIn, carriesMac, rowsFor, ok, statusFor, commandStatus}
+use Rattle.modes.specs.Laws.{plain-sealed, mac-sealed}
+use Rattle.rows.specs.Rows.{unknownCommand, interrupts, lengthCases, wrongLength, lacksMac, otherKindOrNever, notGranted, partFails, forged, switchedOff, parameterCases, ranged, roomOf, amountCases, outside, longRead, nothingPending, macedIn, carriesMac, rowsFor, ok, statusFor, commandStatus}
 
 -- none of the sixteen rows applies
 pub clear : (o : Bool) (c : Core) (f : List ℕ) → statusFor o c f ≡ ok → NoReason (rowsFor o c f (insOf f) (dataOf f))
@@ -119,6 +124,16 @@ module _ (l : Limits) (p : Purse) (n : ℕ) (r : Role) (d : List ℕ) where
   pub rebook-inside : outside l p n limitedCredit r d ≡ false → (not (within l (p .pending +ℤ pos (amountOf d))) ≡ false) × (ltb (p .left) (amountOf d) ≡ false)
   unfolding outside ranged amountCases pick
   rebook-inside e = or-no _ _ (none (amountCases l p limitedCredit (amountOf d)) e .1 .1 .0)
+
+-- ---- a MAC
+
+-- the one that the terminal of the card's session puts in is right
+pub right-mac : (k : Channel) (i : ℕ) (d : List ℕ) → forged k true i (d ++ sealOf (k .secret) i (counterOf (k .stage)) (k .ti) d) ≡ false
+unfolding forged
+right-mac k i d =
+    let t = sealOf (k .secret) i (counterOf (k .stage)) (k .ti) d in
+    let l = length-seal (k .secret) i (counterOf (k .stage)) (k .ti) d in
+    rw (mac-sealed d t l, plain-sealed d t l) (ap not (same-equal t t refl))
 
 -- ---- the log
 

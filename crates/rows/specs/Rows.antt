@@ -16,14 +16,14 @@ use Rattle.limits.specs.Limits.{within}
 use Rattle.purse.specs.declared.Purse.{Purse}
 use Rattle.logbook.specs.Journal.{entrySize}
 use Rattle.access.specs.declared.Access.{Access}
-use Rattle.access.specs.Rights.{isNever, isNotGranted}
+use Rattle.access.specs.Rights.{lastKey, isNever, isNotGranted}
 use Rattle.keys.specs.declared.Keys.{Keys}
 use Rattle.keys.specs.Keys.{keyAt}
 use Rattle.chains.specs.declared.Chain.{Chain}
 use Rattle.chains.specs.Chain.{isOpen, wrongBytes}
 use Rattle.channel.specs.declared.Stage.{Stage}
 use Rattle.channel.specs.declared.Channel.{Channel}
-use Rattle.channel.specs.Channel.{isWaiting, stageKey, counterOf}
+use Rattle.channel.specs.Channel.{isWaiting, stageKey, counterOf, lastCount}
 use Rattle.sealing.specs.Sealing.{sealOf}
 use Rattle.handshake.specs.Handshake.{fails}
 use Rattle.columns.specs.Table.{readData, writeData, getValue, credit, debit, limitedCredit, readRecords, writeRecord, clearRecordFile, commitTransaction, abortTransaction, getFileSettings, authenticateFirst, authenticateSecond, onData, onFile, namesFile, ends, isBase, suits}
@@ -101,7 +101,7 @@ forged ch m i x = m && not (same (macOf x) (sealOf (ch .secret) i (counterOf (ch
 
 -- a base command or GetFileSettings at command counter FFFFh
 unfoldable pub usedUp : Stage → ℕ → Bool
-usedUp g i = isBase i && eqb (counterOf g) 0xFFFF
+usedUp g i = isBase i && eqb (counterOf g) lastCount
 
 -- LimitedCredit while off; WriteRecord while a clear is pending
 unfoldable pub switchedOff : ℕ → Bool → Bool → Bool
@@ -113,7 +113,7 @@ noAmount d = eqb (amountOf d) 0 || leb 0x80000000 (amountOf d)
 
 -- authentication key above 4, or LRP bit set
 abbrev pub noKey : List ℕ → Bool
-noKey d = ltb 4 (keyIn d) || eqb (lrpIn d) 1
+noKey d = ltb lastKey (keyIn d) || eqb (lrpIn d) 1
 
 -- these; write of length 0; commit option not 00h
 unfoldable pub parameterCases : ℕ → List ℕ → List Bool
@@ -151,9 +151,13 @@ unfoldable pub outside : Limits → Purse → ℕ → ℕ → Role → List ℕ 
 outside l p entries i r d =
     pick (ranged i) (outsideOf (roomOf i r entries) (offsetOf d) (lengthOf d)) (outsideAmount l p i (amountOf d))
 
--- a ReadData in MAC mode of more than 248 bytes, length 0 counted as what it reads
+-- the most bytes that a read in MAC mode shows
+abbrev pub macedRead : ℕ
+macedRead = 248
+
+-- a ReadData in MAC mode of more than these, length 0 counted as what it reads
 unfoldable pub longRead : Bool → ℕ → Role → List ℕ → Bool
-longRead m i r d = eqb i readData && (m && ltb 248 (endOf (sizeOf r) (offsetOf d) (lengthOf d) - offsetOf d))
+longRead m i r d = eqb i readData && (m && ltb macedRead (endOf (sizeOf r) (offsetOf d) (lengthOf d) - offsetOf d))
 
 -- commit or abort with nothing pending
 unfoldable pub nothingPending : ℕ → Bool → Bool → Bool

@@ -16,16 +16,18 @@ use Rattle.modes.specs.Modes.{roleIn}
 use Rattle.rows.specs.State.{State}
 use Rattle.channel.specs.declared.Inputs.{Inputs}
 use Rattle.rows.specs.Rows.{ok, statusOf, openingStatus, bytesStatus}
+use Rattle.rows.specs.Inside.{Cleared, entry-room}
+use Rattle.rows.specs.Openings.{opening-announces, carried}
 use Rattle.effects.specs.Effects.{purseAfter, journalAfter}
+use Rattle.effects.specs.Laws.{Other, by-name, purse-other, journal-other}
 use Rattle.card.specs.Events.{changed, ended, Played, refused, acceptedPlain, accepted, judged, played, opening, openingPlayed, delivered, bytesPlayed, withSession}
 use Rattle.demands.specs.Strike.{Line, broken, idle, strike, part, through}
 use Rattle.demands.specs.Books.{Op, valueAfter, Books, booked}
 use Rattle.demands.specs.History.{Handed, Event, command, opens, delivers, session, power, plays, run, along, bookLine, plainIn, bookAccount, lineBy, booksOf}
-use Rattle.demands.specs.Laws.Names.{Other, by-name, purse-other, journal-other, book-other}
+use Rattle.demands.specs.Laws.Names.{book-other}
 use Rattle.demands.specs.Laws.Sound.{Sound, changed-sound, ended-sound, session-sound}
 use Rattle.demands.specs.Laws.Steps.{accepted-cleared, moves}
-use Rattle.demands.specs.Laws.Inside.{Cleared, entry-room}
-use Rattle.demands.specs.Laws.Chained.{opening-announces, opening-sound, carried, delivered-sound}
+use Rattle.demands.specs.Laws.Chained.{opening-sound, delivered-sound}
 use Rattle.demands.specs.Laws.Induct.{Moved, from-rest, flat-part}
 use Rattle.demands.specs.Laws.Posting.{balance, value-sum, allowance-through, log-four}
 use Rattle.demands.specs.Laws.Opened.{OpenPurse, purse-rests, purse-in, purse-out, purse-rebooked, purse-entered, purse-cleared, allowance-booked, OpenLog, log-rests, log-in, log-out, log-rebooked, log-entered, log-cleared, log-booked}

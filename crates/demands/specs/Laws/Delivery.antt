@@ -20,6 +20,7 @@ use Rattle.logbook.specs.declared.Log.{Log}
 use Rattle.logbook.specs.Laws as logbook
 use Rattle.chains.specs.declared.Chain.{Chain}
 use Rattle.chains.specs.Chain.{announced, nextPlace, completes, shortened, mostBytes, wrongBytes}
+use Rattle.chains.specs.Laws.{Ranged, ranged}
 use Rattle.channel.specs.declared.Channel.{Channel}
 use Rattle.channel.specs.Channel.{chained, advanced}
 use Rattle.frames.specs.Frame.{dataOf}
@@ -34,7 +35,6 @@ use Rattle.demands.specs.Strike.{flat}
 use Rattle.demands.specs.History.{opens, delivers, outcome, next, plays, run, along}
 use Rattle.demands.specs.Demands.{Kept}
 use Rattle.demands.specs.Chains.{FrameSizes, delivery, heard}
-use Rattle.demands.specs.Laws.Chained.{Ranged, ranged}
 use Rattle.demands.specs.Laws.Steps.{sound-view, outcome-plays, next-kept}
 
 -- ---- one event on a card

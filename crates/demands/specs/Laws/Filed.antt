@@ -14,11 +14,14 @@ use Rattle.roles.specs.Roles.{sizeOf}
 use Rattle.datafiles.specs.declared.Files.{Files}
 use Rattle.datafiles.specs.Files as files
 use Rattle.datafiles.specs.Laws.{Sized}
+use Rattle.chains.specs.Laws.{ranged, bytes-room}
 use Rattle.frames.specs.Frame.{insOf, dataOf, offsetOf, bytesIn}
 use Rattle.columns.specs.Table.{writeData}
 use Rattle.modes.specs.Modes.{roleIn}
 use Rattle.rows.specs.State.{State}
 use Rattle.rows.specs.Rows.{ok, statusOf, openingStatus, bytesStatus}
+use Rattle.rows.specs.Inside.{Cleared, write-room}
+use Rattle.rows.specs.Openings.{carried}
 use Rattle.effects.specs.Effects.{filesAfter}
 use Rattle.card.specs.Events.{changed, ended, Played, refused, acceptedPlain, accepted, judged, played, opening, openingPlayed, delivered, bytesPlayed, withSession}
 use Rattle.demands.specs.Strike.{Line, posted, broken, idle, posts, through}
@@ -26,8 +29,6 @@ use Rattle.demands.specs.DataFiles.{Write, stored}
 use Rattle.demands.specs.History.{Event, command, opens, delivers, session, power, plays, run, along, fileLine, plainIn, writeOf, fileAccount, lineBy}
 use Rattle.demands.specs.Laws.Sound.{Sound}
 use Rattle.demands.specs.Laws.Steps.{accepted-cleared, moves, moves-sound}
-use Rattle.demands.specs.Laws.Inside.{Cleared, write-room}
-use Rattle.demands.specs.Laws.Chained.{carried, ranged, bytes-room}
 
 -- a write that has room is laid over its file
 pub written-stored : (f : Files) → Sized f → (at : ℕ) (x : List ℕ) (r : Role) → at + length x ≤ sizeOf r → files.written f r at x ≡ stored f (record { file = r; place = at; bytes = x })

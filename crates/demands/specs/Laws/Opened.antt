@@ -14,8 +14,8 @@ use Rattle.purse.specs.Purse as purse
 use Rattle.logbook.specs.Journal.{Journal}
 use Rattle.logbook.specs.Journal as journal
 use Rattle.logbook.specs.Fit.{Fit}
+use Rattle.logbook.specs.FitLaws.{length-fresh}
 use Rattle.demands.specs.Books.{Op, paid-in, paid-out, rebooked, entered, cleared, outflow, inflow, isDebit, isRebooking, isEntry, isClear, sum, some, valueAfter, allowanceAfter, overwritten}
-use Rattle.demands.specs.Laws.Sound.{fresh-sized}
 use Rattle.demands.specs.Laws.Posting.{one-more, has-clear, plus, minus, value-none, logAfter}
 
 -- ---- the value file
@@ -87,7 +87,7 @@ module _ (j : Journal) (tx : List Op) (h : OpenLog j tx) where
   pub log-entered : Fit j → (at : ℕ) (bytes : List ℕ) → at + length bytes ≤ 16 → OpenLog (journal.written j at bytes) (tx ++ (entered at bytes ∷ []))
   unfolding overwritten journal.written journal.freshOr journal.some
   log-entered f at bytes room =
-      let sized = fresh-sized journal.blank (j .fresh) (unfold journal.blank in refl) (f .fresh-sized) in
+      let sized = length-fresh journal.blank (j .fresh) (unfold journal.blank in refl) (f .fresh-sized) in
       let e : laidIn (journal.freshOr journal.blank (j .fresh)) at bytes ≡ laid (journal.freshOr journal.blank (j .fresh)) at bytes = laid-room _ at bytes (omega arith) in
       record { clears = simp one-more (h .clears); adds = simp one-more (λ _. refl); entry = simp one-more (λ q. e ∙ rw (h .entry q)) }
 

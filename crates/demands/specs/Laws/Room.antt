@@ -19,15 +19,16 @@ use Rattle.handshake.specs.Handshake.{rotated, firstReply, broughtA, secondRepl
 use Rattle.authentication.specs.Authentication.{partKey, firstShown, secondShown}
 use Rattle.columns.specs.Table.{authenticateSecond}
 use Rattle.rows.specs.State.{State}
-use Rattle.modes.specs.Modes.{roleIn, plainOf}
+use Rattle.channel.specs.Fitting.{Fitting}
+use Rattle.modes.specs.Modes.{roleIn, macSize, plainOf}
 use Rattle.rows.specs.Rows.{macedIn, wrongLength, ok, commandStatus}
 use Rattle.rows.specs.Laws.{inside, long-enough, second-length}
 use Rattle.card.specs.Accepted.{baseShown, shown-small}
-use Rattle.card.specs.Events.{shown, macBehind}
+use Rattle.card.specs.Events.{shown, macBehind, dataRoom}
 use Rattle.demands.specs.History.{Handed}
-use Rattle.demands.specs.Laws.Sound.{Sound, Fitting}
+use Rattle.demands.specs.Laws.Sound.{Sound}
 
-pub mac-length : (m : Bool) (k : Channel) (x : List ℕ) → length (macBehind m k x) ≡ pick m 8 0
+pub mac-length : (m : Bool) (k : Channel) (x : List ℕ) → length (macBehind m k x) ≡ pick m macSize 0
 unfolding macBehind sealOf pick
 mac-length true k x = length-truncated _
 mac-length false k x = refl
@@ -58,14 +59,14 @@ second-shown ks c d h e = replied-length (partKey ks c) (c .ti) (c .caps) _ (h .
 
 -- x is the data field as sent, k the channel after
 pub reply-room : (s : State) (u : Inputs) → Handed u → (i : ℕ) (x : List ℕ) (k : Channel) → Sound s → commandStatus false (s .core) i x ≡ ok
-    → length (shown s u i (roleIn (s .core .settings) x) (plainOf (macedIn (s .core) i x) x) ++ macBehind (macedIn (s .core) i x) k (shown s u i (roleIn (s .core .settings) x) (plainOf (macedIn (s .core) i x) x))) ≤ 256
+    → length (shown s u i (roleIn (s .core .settings) x) (plainOf (macedIn (s .core) i x) x) ++ macBehind (macedIn (s .core) i x) k (shown s u i (roleIn (s .core .settings) x) (plainOf (macedIn (s .core) i x) x))) ≤ dataRoom
 unfolding shown
 reply-room s u handed i x k h e =
     let m = macedIn (s .core) i x in
     let d = plainOf m x in
-    let most : pick m 8 0 ≤ 8 = pick-both (λ n. n ≤ 8) m 8 0 (omega arith) (omega arith) in
-    let Small : List ℕ → Type 0 = λ y. length (y ++ macBehind m k y) ≤ 256 in
-    let small : (y : List ℕ) → length y + pick m 8 0 ≤ 256 → Small y = λ y r. omega (arith, r, length-append y (macBehind m k y), mac-length m k y) in
+    let most : pick m macSize 0 ≤ macSize = pick-both (λ n. n ≤ macSize) m macSize 0 (omega arith) (omega arith) in
+    let Small : List ℕ → Type 0 = λ y. length (y ++ macBehind m k y) ≤ dataRoom in
+    let small : (y : List ℕ) → length y + pick m macSize 0 ≤ dataRoom → Small y = λ y r. omega (arith, r, length-append y (macBehind m k y), mac-length m k y) in
     pick-cases Small _ _ _ (λ t. small (firstShown (s .core .keys) u d) (omega (arith, most, first-length (s .core .keys) u d handed)))
     (λ _. pick-cases Small _ _ _
     (λ t. small (secondShown (s .core .keys) (s .core .channel) d) (omega (arith, most, second-shown (s .core .keys) (s .core .channel) d (h .channel) (second-length false d (subst (λ (j : ℕ). wrongLength false j d ≡ false) (eqb-true i authenticateSecond t) (long-enough false (s .core) i x e .0))))))

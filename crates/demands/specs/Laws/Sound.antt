@@ -1,34 +1,31 @@
 -- The standing rules of a state, with the sizes of its files and entries, and that every step keeps them.
 use Prim.Native.Nat.{ℕ}
 use mathlib.Core.Bool.{Bool, true, false, _&&_, or-true}
-use mathlib.Core.List.{List, [], _∷_}
-use mathlib.Core.Path.{_≡_, refl, subst, _∙_}
+use mathlib.Core.List.{List}
+use mathlib.Core.Path.{_≡_, refl, subst}
 use borrow.Author.Tests.{not-false, eqb-true}
-use lib.Dec.{leb}
-use lib.ListN.{length, drop}
+use lib.ListN.{drop}
 use Rattle.tables.specs.Choice.{pick, pick-both, pick-cases}
-use Rattle.wire.specs.Laws.{length-laidIn}
 use Rattle.roles.specs.declared.Role.{Role}
 use Rattle.datafiles.specs.declared.Files.{Files}
 use Rattle.datafiles.specs.Files as files
-use Rattle.datafiles.specs.Laws.{Sized, sized-holding}
+use Rattle.datafiles.specs.Laws.{Sized, written-sized}
 use Rattle.limits.specs.declared.Limits.{Limits}
 use Rattle.limits.specs.Limits.{crossed}
 use Rattle.purse.specs.declared.Purse.{Purse}
 use Rattle.standing.specs.Laws as rules-laws
 use Rattle.logbook.specs.Journal.{Journal}
 use Rattle.logbook.specs.Journal as journal
-use Rattle.logbook.specs.Fit.{Fit, Sixteens}
+use Rattle.logbook.specs.Fit.{Fit}
 use Rattle.logbook.specs.FitLaws.{fit-written, fit-cleared, fit-settled, fit-dropped}
 use Rattle.access.specs.declared.Session.{Session}
-use Rattle.access.specs.declared.Session.the-variants.{Nobody, Key}
 use Rattle.wire.specs.Listed.{length-filled}
-use Rattle.chains.specs.Chain.{unchained, isOpen, chainSound}
-use Rattle.channel.specs.declared.Stage.{Stage}
-use Rattle.channel.specs.declared.Stage.the-variants.{Closed, Bench, Waiting, Real}
-use Rattle.channel.specs.declared.Channel.{Channel}
+use Rattle.chains.specs.Chain.{unchained}
+use Rattle.chains.specs.Laws.{none-sound}
+use Rattle.channel.specs.declared.Stage.the-variants.{Closed}
 use Rattle.channel.specs.declared.Inputs.{Inputs}
-use Rattle.channel.specs.Channel.{stageOf, stageSound, isWaiting, stageKey, countedUp, counted, bare}
+use Rattle.channel.specs.Channel.{stageOf}
+use Rattle.channel.specs.Fitting.{Fitting, bare-fitting, bench-sound, key-sound, counted-fitting}
 use Rattle.cmac.specs.Laws.{length-cmac}
 use Rattle.derivation.specs.Derivation.{macKey}
 use Rattle.handshake.specs.Handshake.{capsOf}
@@ -40,20 +37,11 @@ use Rattle.settings.specs.Settings.{rightsBroken, numberAbove, numberTwice}
 use Rattle.rows.specs.State.{Core, State, logPending}
 use Rattle.rows.specs.Rows.{switchedOff}
 use Rattle.rows.specs.Laws.{credit-inside, debit-inside, rebook-inside}
+use Rattle.rows.specs.Inside.{Cleared, key-named}
 use Rattle.effects.specs.Effects.{purseAfter, journalAfter, filesAfter}
+use Rattle.effects.specs.Laws.{by-name, purse-other, journal-other}
 use Rattle.card.specs.Events.{channelAfter, changed, ended, withSession}
 use Rattle.demands.specs.History.{Handed}
-use Rattle.demands.specs.Laws.Names.{by-name, purse-other, journal-other}
-use Rattle.demands.specs.Laws.Inside.{Cleared, key-named}
-
--- the key of a session is 0 to 4, its bytes have their sizes, and an open chain lies inside its file, with no first part waiting
-pub record Fitting (k : Channel) : Type 0 where
-  pub known : stageSound (k .stage) ≡ true
-  pub secret : length (k .secret) ≡ 16
-  pub ti : length (k .ti) ≡ 4
-  pub caps : length (k .caps) ≡ 6
-  pub chain : chainSound (k .chain) ≡ true
-  pub free : (isOpen (k .chain) && isWaiting (k .stage)) ≡ false
 
 -- a new entry and a clear are never pending together
 abbrev pub both : Journal → Bool
@@ -108,65 +96,20 @@ module _ (c : Core) (r : Role) (d : List ℕ) where
       (λ e. h) (λ e. h) (λ e. h) no-clear-pending (λ e. refl) (λ e. refl) (λ e. refl)
       (λ i o e. rw (journal-other i d (c .journal) o) h)
 
-pub written-sized : (f : Files) (r : Role) (at : ℕ) (x : List ℕ) → Sized f → Sized (files.written f r at x)
-written-sized f r at x h = sized-holding f r _ h (length-laidIn (files.bytesOf f r) at x ∙ h r)
-
 files-kept : (f : Files) (i : ℕ) (r : Role) (d : List ℕ) → Sized f → Sized (filesAfter i r d f)
 unfolding filesAfter
 files-kept f i r d h = pick-both Sized _ _ _ (written-sized f r (offsetOf d) (bytesIn d) h) h
 
 -- ---- the channel
 
-pub no-chain : chainSound unchained ≡ true
-unfolding chainSound unchained pick
-no-chain = refl
-
-pub bare-fitting : (g : Stage) → stageSound g ≡ true → Fitting (bare g)
-unfolding bare unchained
-bare-fitting g e = record { known = e; secret = refl; ti = refl; caps = refl; chain = unfold unchained in no-chain; free = refl }
-
-bench-sound : (k : Session) → sessionSound k ≡ true → stageSound (stageOf k) ≡ true
-bench-sound Nobody e = refl
-bench-sound (Key k) e = e
-
-key-sound : (g : Stage) → stageSound g ≡ true → leb (stageKey g) 4 ≡ true
-key-sound Closed e = refl
-key-sound (Bench k) e = refl
-key-sound (Waiting k) e = e
-key-sound (Real k n) e = e
-
-counted-sound : (g : Stage) → stageSound g ≡ true → stageSound (countedUp g) ≡ true
-counted-sound Closed e = e
-counted-sound (Bench k) e = e
-counted-sound (Waiting k) e = e
-counted-sound (Real k n) e = e
-
-counted-waits : (g : Stage) → isWaiting (countedUp g) ≡ isWaiting g
-counted-waits Closed = refl
-counted-waits (Bench k) = refl
-counted-waits (Waiting k) = refl
-counted-waits (Real k n) = refl
-
-pub counted-fitting : (k : Channel) → Fitting k → Fitting (counted k)
-unfolding counted
-counted-fitting k h =
-    record { known = counted-sound (k .stage) (h .known); secret = h .secret; ti = h .ti; caps = h .caps; chain = h .chain; free = rw (counted-waits (k .stage)) (h .free) }
-
 channel-kept : (c : Core) (u : Inputs) (i : ℕ) (r : Role) (d : List ℕ) → Handed u → Fitting (c .channel) → Cleared c i r d → Fitting (channelAfter (c .keys) u i d (c .channel))
 unfolding channelAfter
 channel-kept c u i r d handed h e =
     pick-cases Fitting _ _ _
-    (λ t. unfold begun capsOf in record { known = key-named c r d (subst (λ (j : ℕ). Cleared c j r d) (eqb-true i authenticateFirst t) e); secret = handed .random; ti = handed .ti; caps = length-filled 6 (drop 2 d); chain = no-chain; free = unfold unchained in refl })
+    (λ t. unfold begun capsOf in record { known = key-named c r d (subst (λ (j : ℕ). Cleared c j r d) (eqb-true i authenticateFirst t) e); secret = handed .random; ti = handed .ti; caps = length-filled 6 (drop 2 d); chain = none-sound; free = unfold unchained in refl })
     (λ _. pick-cases Fitting _ _ _
-    (λ t. unfold opened macKey in record { known = key-sound (c .channel .stage) (h .known); secret = length-cmac _ _; ti = h .ti; caps = refl; chain = no-chain; free = unfold unchained in refl })
+    (λ t. unfold opened macKey in record { known = key-sound (c .channel .stage) (h .known); secret = length-cmac _ _; ti = h .ti; caps = refl; chain = none-sound; free = unfold unchained in refl })
     (λ _. counted-fitting (c .channel) h))
-
--- ---- the new entry, or e where there is none
-
-pub fresh-sized : (e : List ℕ) (fs : List (List ℕ)) → length e ≡ 16 → Sixteens fs → length (journal.freshOr e fs) ≡ 16
-unfolding journal.freshOr
-fresh-sized e [] l h = l
-fresh-sized e (f ∷ fs) l (h, hs) = h
 
 -- ---- the steps
 

@@ -15,23 +15,23 @@ use Rattle.logbook.specs.Journal as journal
 use Rattle.logbook.specs.View as log
 use Rattle.logbook.specs.Laws as logbook
 use Rattle.logbook.specs.Entries.{length-round}
-use Rattle.logbook.specs.FitLaws.{fit-view}
+use Rattle.logbook.specs.FitLaws.{fit-view, length-fresh}
 use Rattle.modes.specs.Modes.{roleIn}
 use Rattle.rows.specs.State.{State, logPending}
 use Rattle.rows.specs.Rows.{ok, statusOf, openingStatus, bytesStatus}
-use Rattle.rows.specs.Laws.{command-ok}
+use Rattle.rows.specs.Laws.{command-ok, pending-view}
+use Rattle.rows.specs.Inside.{Cleared, cleared}
+use Rattle.rows.specs.Openings.{opening-announces, carried}
 use Rattle.card.specs.declared.Card.{Card}
 use Rattle.card.specs.View.{view, put}
 use Rattle.standing.specs.Parts.{logBroken, chainBroken, log-few, log-placed, log-apart, parted, joined}
 use Rattle.card.specs.Outcome.{Outcome}
 use Rattle.card.specs.Events.{Played, refused, acceptedPlain, accepted, judged, played, laidInto, opening, openingPlayed, chainOpened, delivered, bytesPlayed, bytesSent, sessionChanged, poweredUp, replyRoom}
-use Rattle.rows.specs.Laws.{pending-view}
 use Rattle.card.specs.Laws.{log-unbroken, bench-plays, command-plays}
 use Rattle.demands.specs.History.{Handed, Event, command, opens, delivers, session, power, outcome, next, plays, run, along, plainIn}
 use Rattle.demands.specs.Demands.{Kept}
-use Rattle.demands.specs.Laws.Sound.{Sound, fresh-sized, changed-sound, ended-sound, session-sound}
-use Rattle.demands.specs.Laws.Inside.{Cleared, cleared}
-use Rattle.demands.specs.Laws.Chained.{opening-announces, opening-sound, carried, delivered-sound}
+use Rattle.demands.specs.Laws.Sound.{Sound, changed-sound, ended-sound, session-sound}
+use Rattle.demands.specs.Laws.Chained.{opening-sound, delivered-sound}
 use Rattle.channel.specs.declared.Inputs.{Inputs}
 use Rattle.frames.specs.Frame.{insOf, dataOf}
 
@@ -78,7 +78,7 @@ put-kept c n s k h =
       rules = joined _ _ _ _ _ (h .rights, (h .limits, (h .above, (h .twice, (not-no _ (h .channel .known), (or-none _ _ (or-none _ _ (le-ltb 4 (length (s .core .journal .entries)) (h .journal .few)) (not-no _ (lt-ltb _ _ placed))) (h .apart), (rules-laws.unbroken (h .figures), (or-none _ _ (not-no _ (h .channel .chain)) (h .channel .free), tt))))))));
       files = h .files;
       slots = length-round (c .log .slots) (log.turned n (c .log .place)) (s .core .journal .entries) (h .journal .sized) (k .slots);
-      entry = fresh-sized (c .log .entry) (s .core .journal .fresh) (k .entry) (h .journal .fresh-sized);
+      entry = length-fresh (c .log .entry) (s .core .journal .fresh) (k .entry) (h .journal .fresh-sized);
       secret = h .channel .secret;
       ti = h .channel .ti;
       caps = h .channel .caps;

@@ -13,6 +13,7 @@ use Rattle.access.specs.Rights.{sessionSound}
 use Rattle.frames.specs.Frame.{insOf, dataOf}
 use Rattle.rows.specs.Rows.{ok, statusOf, openingStatus, bytesStatus}
 use Rattle.effects.specs.Effects.{journalAfter, storedAfter}
+use Rattle.effects.specs.Laws.{by-name, journal-other, stored-other}
 use Rattle.card.specs.declared.Card.{Card}
 use Rattle.card.specs.View.{view, put, broken}
 use Rattle.card.specs.Outcome.{Outcome, bench}
@@ -20,7 +21,6 @@ use Rattle.card.specs.Events.{Played, changed, ended, refused, acceptedPlain, a
 use Rattle.demands.specs.History.{Event, command, opens, delivers, session, power, outcome, next, plays, plainIn}
 use Rattle.demands.specs.Demands.{Kept}
 use Rattle.demands.specs.Ring.{storedAt, placeOf}
-use Rattle.demands.specs.Laws.Names.{by-name, journal-other, stored-other}
 use Rattle.demands.specs.Laws.Steps.{outcome-plays}
 
 -- ---- the slots

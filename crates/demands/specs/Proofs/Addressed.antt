@@ -13,7 +13,8 @@ use Rattle.channel.specs.Channel.{counterOf}
 use Rattle.sealing.specs.Sealing.{sealOf}
 use Rattle.till.specs.Till.{sealed}
 use Rattle.sealing.specs.Laws.{length-seal}
-use Rattle.frames.specs.Frame.{dataOf}
+use Rattle.frames.specs.Frame.{dataOf, framed}
+use Rattle.frames.specs.Framed.{framed-length, framed-data, last}
 use Rattle.columns.specs.Table.{namesFile}
 use Rattle.settings.specs.Settings.{fileAt}
 use Rattle.settings.specs.Laws.{named-by}
@@ -21,13 +22,13 @@ use Rattle.rows.specs.State.{Core}
 use Rattle.modes.specs.Modes.{roleIn, maced, plainOf}
 use Rattle.modes.specs.Laws.{plain-sealed}
 use Rattle.rows.specs.Rows.{forged, macedIn}
+use Rattle.rows.specs.Laws.{right-mac}
 use Rattle.card.specs.declared.Card.{Card}
 use Rattle.card.specs.View.{view}
 use Rattle.standing.specs.Parts.{parted}
 use Rattle.demands.specs.Demands.{Kept}
 use Rattle.demands.specs.Sessions.{macedFrame, Sealable}
 use Rattle.demands.specs.Numbers.{Alike, Exchanged, Addresses}
-use Rattle.demands.specs.Laws.Framed.{framed, framed-length, framed-data, last, right-mac}
 use Rattle.demands.specs.Laws.Exchanged.{mode-alike}
 
 -- the role that a data field with the card's own number names

@@ -21,13 +21,14 @@ use Rattle.channel.specs.declared.Stage.{Stage}
 use Rattle.channel.specs.declared.Stage.the-variants.{Bench, Real}
 use Rattle.channel.specs.Channel.{isReal, counterOf, countedUp, counted, bare, chained}
 use Rattle.sealing.specs.Sealing.{sealOf}
-use Rattle.frames.specs.Frame.{insOf, dataOf}
+use Rattle.frames.specs.Frame.{insOf, dataOf, framed}
 use Rattle.columns.specs.Table.{readData, writeData, getValue, credit, debit, limitedCredit, readRecords, writeRecord, clearRecordFile, getFileSettings, authenticateFirst, authenticateSecond, onData, onValue, onLog, onFile, namesFile, isBase}
 use Rattle.rows.specs.State.{Core, logPending}
 use Rattle.modes.specs.Modes.{roleIn, accessFor, macedUnder, plainOf}
 use Rattle.modes.specs.Laws.{role-first, plain-sealed}
 use Rattle.rows.specs.Rows.{unknownCommand, interrupts, sentOf, lengthCases, wrongLength, lacksMac, unknownFile, otherKindOrNever, notGranted, partFails, forged, usedUp, switchedOff, badParameter, ranged, outside, longRead, nothingPending, macedIn, rowsUnder, rowsFor, ok, statusFor, statusOf}
-use Rattle.rows.specs.Laws.{clear}
+use Rattle.rows.specs.Laws.{clear, right-mac}
+use Rattle.rows.specs.Inside.{or-false-false}
 use Rattle.effects.specs.Effects.{storedAfter, filesAfter}
 use Rattle.replies.specs.Replies.{shownOf}
 use Rattle.card.specs.declared.Card.{Card}
@@ -46,12 +47,11 @@ use Rattle.logbook.specs.Journal.{Journal}
 use Rattle.logbook.specs.View as log
 use Rattle.till.specs.Till.{sealed}
 use Rattle.frames.specs.Laws.{length-data}
+use Rattle.frames.specs.Framed.{header}
 use Rattle.sealing.specs.Laws.{length-seal}
 use Rattle.till.specs.Laws.{sealable-yes}
 use Rattle.demands.specs.Demands.{Kept}
 use Rattle.demands.specs.Sessions.{sends, macedFrame, onBench, Sealable, AsPlain}
-use Rattle.demands.specs.Laws.Inside.{or-false-false}
-use Rattle.demands.specs.Laws.Framed.{framed, header, right-mac}
 use Rattle.demands.specs.Proofs.LetIn.{Sent, framed-sent}
 
 -- ---- a command in MAC mode

@@ -24,7 +24,8 @@ use Rattle.cbc.specs.Laws.{length-encrypted}
 use Rattle.derivation.specs.Derivation.{macKey}
 use Rattle.handshake.specs.Handshake.{rotated, capsOf, firstReply, broughtA, fails, secondReply}
 use Rattle.authentication.specs.Authentication.{begun, firstShown, opened, secondShown}
-use Rattle.frames.specs.Frame.{insOf, dataOf, lrpIn, wrongSize, wrongClass, wrongParameters, wrongFrame}
+use Rattle.frames.specs.Framed.{framed-data, framed-size, framed-class, framed-parameters, framed-frame}
+use Rattle.frames.specs.Frame.{insOf, dataOf, framed, lrpIn, wrongSize, wrongClass, wrongParameters, wrongFrame}
 use Rattle.columns.specs.Table.{authenticateFirst, authenticateSecond, onFile, namesFile}
 use Rattle.rows.specs.State.{Core, State}
 use Rattle.modes.specs.Modes.{roleIn, plainOf}
@@ -41,7 +42,6 @@ use Rattle.till.specs.Meets.{learns, brings, passes, tells, knows}
 use Rattle.demands.specs.History.{command, outcome}
 use Rattle.demands.specs.Demands.{Kept}
 use Rattle.demands.specs.Sessions.{sends, LetIn, Terminals}
-use Rattle.demands.specs.Laws.Framed.{framed, framed-data, framed-size, framed-class, framed-parameters, framed-frame}
 use Rattle.demands.specs.Laws.Room.{rotated-length}
 use Rattle.demands.specs.Laws.Steps.{next-kept}
 

@@ -18,6 +18,7 @@ use Rattle.channel.specs.Channel.{bare, chained}
 use Rattle.frames.specs.Frame.{dataOf, offsetOf, lengthOf}
 use Rattle.modes.specs.Modes.{roleIn}
 use Rattle.rows.specs.Rows.{ok, statusOf, openingStatus, bytesStatus}
+use Rattle.rows.specs.Openings.{Announced, opening-announces}
 use Rattle.card.specs.declared.Card.{Card}
 use Rattle.card.specs.View.{view, put}
 use Rattle.card.specs.Outcome.{Outcome}
@@ -28,7 +29,6 @@ use Rattle.demands.specs.Strike.{flat}
 use Rattle.demands.specs.History.{Event, command, opens, delivers, session, power, next, plays, run, booksOf}
 use Rattle.demands.specs.Demands.{Kept}
 use Rattle.demands.specs.Chains.{FrameSizes, delivery, Ends, Torn, Tears}
-use Rattle.demands.specs.Laws.Chained.{Announced, opening-announces}
 use Rattle.demands.specs.Laws.Steps.{sound-view, view-next, outcome-plays, next-kept, run-kept}
 use Rattle.demands.specs.Laws.Delivery.{chainOn, given, opens-card, runs-given}
 use Rattle.demands.specs.Proofs.Demand1.{ended-untouched}

@@ -30,6 +30,7 @@ use Rattle.modes.specs.Laws.{role-first}
 use Rattle.rows.specs.State.{Core}
 use Rattle.rows.specs.Rows.{unknownCommand, sentOf, lengthCases, wrongLength, lacksMac, unknownFile, otherKindOrNever, notGranted, partFails, forged, usedUp, parameterCases, badParameter, ranged, roomOf, outside, longRead, rowsFor, ok, statusFor, macedIn, statusOf, openingStatus, commandStatus}
 use Rattle.rows.specs.Laws.{command-ok, command-clear, no-chain}
+use Rattle.rows.specs.Inside.{write-long}
 use Rattle.effects.specs.Effects.{purseAfter, journalAfter, storedAfter, filesAfter}
 use Rattle.replies.specs.Replies.{shownOf}
 use Rattle.card.specs.declared.Card.{Card}
@@ -42,7 +43,6 @@ use Rattle.demands.specs.History.{opens, outcome, next, run, along}
 use Rattle.demands.specs.Demands.{Kept}
 use Rattle.demands.specs.Sessions.{sends}
 use Rattle.demands.specs.Chains.{FrameSizes, delivery, openingOf, heard, Whole, Wholes}
-use Rattle.demands.specs.Laws.Inside.{write-long}
 use Rattle.demands.specs.Laws.Steps.{sound-view, next-kept}
 use Rattle.demands.specs.Laws.Delivery.{chainOn, given, opens-card, runs-given, frames-heard}
 use Rattle.demands.specs.Proofs.LetIn.{Sent, framed-sent}

@@ -17,6 +17,7 @@ use Rattle.settings.specs.declared.Settings.{Settings}
 use Rattle.rows.specs.State.{State}
 use Rattle.rows.specs.Rows.{ok, statusOf, openingStatus, bytesStatus}
 use Rattle.effects.specs.Effects.{storedAfter}
+use Rattle.effects.specs.Laws.{by-name, stored-other}
 use Rattle.card.specs.declared.Card.{Card}
 use Rattle.card.specs.View.{view}
 use Rattle.card.specs.Outcome.{Outcome}
@@ -26,7 +27,7 @@ use Rattle.demands.specs.Books.{Op, isEntry, isClear, some}
 use Rattle.demands.specs.History.{Event, command, opens, delivers, session, power, next, plays, run, along, bookLine, plainIn, bookAccount, lineBy, traced}
 use Rattle.demands.specs.Demands.{Kept, Taken}
 use Rattle.demands.specs.Ring.{storedAt, placeOf, entriesOf, more, entriesIn, Worn}
-use Rattle.demands.specs.Laws.Names.{by-name, book-other, stored-other}
+use Rattle.demands.specs.Laws.Names.{book-other}
 use Rattle.demands.specs.Laws.Steps.{moves, outcome-plays, next-kept, view-next}
 use Rattle.demands.specs.Laws.Stored.{turns}
 use Rattle.demands.specs.Laws.Induct.{Moved, from-rest}

@@ -13,12 +13,13 @@ use Rattle.wire.specs.Laws.{length-part}
 use Rattle.roles.specs.declared.Role.{Role}
 use Rattle.roles.specs.Roles.{isData, sizeOf}
 use Rattle.logbook.specs.Journal.{entrySize}
+use Rattle.access.specs.Rights.{lastKey}
 use Rattle.frames.specs.Frame.{offsetOf, lengthOf, bytesIn, keyIn}
 use Rattle.columns.specs.Table.{writeData, writeRecord, authenticateFirst, onFile, suits}
 use Rattle.rows.specs.State.{Core}
 use Rattle.modes.specs.Modes.{roleIn, accessFor, plainOf}
 use Rattle.rows.specs.Rows.{sentOf, lengthCases, wrongLength, otherKindOrNever, switchedOff, parameterCases, badParameter, outside, macedIn, rowsFor, ok, commandStatus}
 use Rattle.rows.specs.Laws.{command-clear, inside, long-enough, write-inside, entry-inside}
 
 -- of the INS i, the role r of the file that it names, and the data field d
 pub record Cleared (c : Core) (i : ℕ) (r : Role) (d : List ℕ) : Type 0 where
@@ -87,6 +88,6 @@ module _ (c : Core) (r : Role) (d : List ℕ) where
   write-room h = room _ d (write-long d (h .long)) (write-inside _ _ _ r d (h .inside))
 
   -- a first part names a key 0 to 4
-  pub key-named : Cleared c authenticateFirst r d → leb (keyIn d) 4 ≡ true
+  pub key-named : Cleared c authenticateFirst r d → leb (keyIn d) lastKey ≡ true
   unfolding parameterCases
-  key-named h = le-leb _ _ (ltb-false 4 (keyIn d) (or-no _ _ (none (parameterCases authenticateFirst d) (h .sound) .1 .1 .1 .0) .0))
+  key-named h = le-leb _ _ (ltb-false lastKey (keyIn d) (or-no _ _ (none (parameterCases authenticateFirst d) (h .sound) .1 .1 .1 .0) .0))

@@ -1,6 +1,6 @@
--- A frame made of an INS and a data field passes places 1 to 4, and both are read out of it; and the terminal's MAC is right.
+-- A frame made of an INS and a data field passes places 1 to 4, and both are read out of it.
 use Prim.Native.Nat.{ℕ, suc, _+_, _-_, _≤_, _<_}
-use mathlib.Core.Bool.{true, false, not}
+use mathlib.Core.Bool.{false, not}
 use mathlib.Core.List.{List, [], _∷_, _++_}
 use mathlib.Core.Path.{_≡_, refl, sym, ap, _∙_}
 use native.Mathlib.Omega.{arith}
@@ -10,17 +10,7 @@ use lib.ListN.{length, getD, take, length-append}
 use lib.Seq.{take-at, getD-at, length-take-le, getD-take}
 use Rattle.tables.specs.Choice.{or-none, and-right, or-no}
 use Rattle.wire.specs.Listed.{spread}
-use Rattle.wire.specs.Same.{same-equal}
-use Rattle.channel.specs.declared.Channel.{Channel}
-use Rattle.channel.specs.Channel.{counterOf}
-use Rattle.sealing.specs.Sealing.{sealOf}
-use Rattle.sealing.specs.Laws.{length-seal}
-use Rattle.modes.specs.Laws.{plain-sealed, mac-sealed}
-use Rattle.rows.specs.Rows.{forged}
-use Rattle.frames.specs.Frame.{insOf, dataOf, wrongSize, wrongClass, wrongParameters, wrongFrame}
-
-abbrev pub framed : ℕ → List ℕ → List ℕ
-framed i d = 0x90 ∷ i ∷ 0x00 ∷ 0x00 ∷ length d ∷ d ++ 0x00 ∷ []
+use Rattle.frames.specs.Frame.{insOf, dataOf, framed, wrongSize, wrongClass, wrongParameters, wrongFrame}
 
 module _ (i : ℕ) (d : List ℕ) where
   pub framed-length : length (framed i d) ≡ length d + 6
@@ -68,11 +58,3 @@ header f z c p =
     let e : (n : ℕ) → n < 4 → getD (take 4 f) n 0 ≡ getD f n 0 = λ n h. getD-take 4 f n 0 h in
     let w = spread 4 (take 4 f) (length-take-le 4 f (omega arith)) in
     w ∙ (λ j. (e 0 (omega arith) ∙ eqb-true _ _ (not-false _ c)) j ∷ e 1 (omega arith) j ∷ (e 2 (omega arith) ∙ eqb-true _ _ (not-false _ (q .0))) j ∷ (e 3 (omega arith) ∙ eqb-true _ _ (not-false _ (q .1))) j ∷ [])
-
--- the MAC that the terminal of the card's session puts in is right
-pub right-mac : (k : Channel) (i : ℕ) (d : List ℕ) → forged k true i (d ++ sealOf (k .secret) i (counterOf (k .stage)) (k .ti) d) ≡ false
-unfolding forged
-right-mac k i d =
-    let t = sealOf (k .secret) i (counterOf (k .stage)) (k .ti) d in
-    let l = length-seal (k .secret) i (counterOf (k .stage)) (k .ti) d in
-    rw (mac-sealed d t l, plain-sealed d t l) (ap not (same-equal t t refl))
