@@ -1,5 +1,5 @@
 -- The three demands, stated: each field is a sentence. The theorems demand1, demand2, standing, demand3, equal-replies and in-code prove them.
-use Prim.Native.Nat.{ℕ, _+_, _*_, _≤_, _<_}
+use Prim.Native.Nat.{ℕ, _+_, _≤_, _<_}
 use mathlib.Core.Bool.{Bool, true, false, _||_}
 use mathlib.Core.List.{List, [], _∷_, _++_}
 use mathlib.Core.Logic.{_↔_, _⊎_}
@@ -13,7 +13,7 @@ use Rattle.roles.specs.declared.Role.{Role}
 use Rattle.roles.specs.Roles.{sizeOf}
 use Rattle.datafiles.specs.Files.{bytesOf}
 use Rattle.limits.specs.Limits.{within}
-use Rattle.logbook.specs.Journal.{entrySize, mostEntries}
+use Rattle.logbook.specs.Journal.{entrySize, slotBytes}
 use Rattle.keys.specs.declared.Keys.{Keys}
 use Rattle.channel.specs.declared.Channel.{Channel}
 use Rattle.channel.specs.declared.Inputs.{Inputs}
@@ -35,7 +35,7 @@ use Rattle.demands.specs.History.{Event, power, outcome, next, Said, sai
 pub record Kept (c : Card) : Type 0 where
   pub rules : broken c ≡ false
   pub files : (r : Role) → length (bytesOf (c .files) r) ≡ sizeOf r
-  pub slots : length (c .log .slots) ≡ entrySize * mostEntries
+  pub slots : length (c .log .slots) ≡ slotBytes
   pub entry : length (c .log .entry) ≡ entrySize
   pub secret : length (c .channel .secret) ≡ 16
   pub ti : length (c .channel .ti) ≡ 4

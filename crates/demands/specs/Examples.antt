@@ -1,7 +1,7 @@
 -- Computed examples on the rules paper's card: no model that is idle, refuses all, has one reply or stops after one transaction.
 use Prim.Native.Nat.{ℕ}
 use mathlib.Core.Bool.{true, false}
-use mathlib.Core.List.{List, [], _∷_, _++_}
+use mathlib.Core.List.{List, [], _∷_}
 use mathlib.Core.Path.{_≡_, refl}
 use lib.IntN.{pos}
 use lib.ListN.{length, replicate}
@@ -61,7 +61,7 @@ abbrev pub bare : ℕ → Event
 bare i = command (0x90 ∷ i ∷ 0 ∷ 0 ∷ 0 ∷ []) zeros zeros-handed
 
 abbrev pub sends : ℕ → List ℕ → Event
-sends i d = command (0x90 ∷ i ∷ 0 ∷ 0 ∷ length d ∷ d ++ (0 ∷ [])) zeros zeros-handed
+sends i d = command (frame.framed i d) zeros zeros-handed
 
 abbrev says : List ℕ → Said
 says bytes = record { refusal = 0; bytes = bytes; len = length bytes }

@@ -1,6 +1,6 @@
 -- What the ring promises: the former log's replies, slot bytes stored by a commit with a new entry alone, and slots that wear alike.
 -- The theorems equal-forms, slots-kept and worn prove it.
-use Prim.Native.Nat.{ℕ, _+_, _*_, _/_, _≤_, _<_}
+use Prim.Native.Nat.{ℕ, _+_, _-_, _/_, _≤_, _<_}
 use mathlib.Core.Bool.{Bool, true, false, not, _&&_}
 use mathlib.Core.List.{List, []}
 use mathlib.Core.Path.{_≡_}
@@ -58,7 +58,7 @@ pub record Slots (c : Card) (e : Event) : Type 0 where
   -- the new entry lies in the slot behind the newest
   pub entry : commitsEntry (view c) e ≡ true → (placeOf (next c e) ≡ newer (placeOf c)) × (slot (placeOf (next c e)) (next c e .log .slots) ≡ c .log .entry)
   -- byte i is one of slot i / 16
-  pub others : (i : ℕ) → i < journal.entrySize * journal.mostEntries → (i / journal.entrySize ≡ placeOf (next c e) → ⊥) → getD (next c e .log .slots) i 0 ≡ getD (c .log .slots) i 0
+  pub others : (i : ℕ) → i < journal.slotBytes → (i / journal.entrySize ≡ placeOf (next c e) → ⊥) → getD (next c e .log .slots) i 0 ≡ getD (c .log .slots) i 0
   -- nothing else stores, and the ring goes on where it was left
   pub still : commitsEntry (view c) e ≡ false → (placeOf (next c e) ≡ placeOf c) × (next c e .log .slots ≡ c .log .slots)
 
@@ -81,5 +81,5 @@ entriesIn lines = through more 0 (part [] (strike lines))
 
 -- no slot has been stored more often than a fourth of them, rounded up
 abbrev pub Worn : Type 0
-Worn = (s : Settings) (ks : Keys) (v : ℤ) → Taken s v → (es : List Event) (k : ℕ) → k < 4
-    → storesOf next storedAt placeOf k (issued s ks v) es ≤ (entriesIn (traced bookAccount (issued s ks v) es) + 3) / 4
+Worn = (s : Settings) (ks : Keys) (v : ℤ) → Taken s v → (es : List Event) (k : ℕ) → k < journal.mostEntries
+    → storesOf next storedAt placeOf k (issued s ks v) es ≤ (entriesIn (traced bookAccount (issued s ks v) es) + (journal.mostEntries - 1)) / journal.mostEntries

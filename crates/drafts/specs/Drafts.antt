@@ -10,6 +10,7 @@ use Rattle.wire.specs.Bytes.{part, Shows}
 use Rattle.text.specs.Hex.{isHex, spelt, inDigits}
 use Rattle.till.specs.Till.{firstFrame, secondPart, secondFrame, sealed, sealable}
 use Rattle.lines.specs.Lines.{Said}
+use Rattle.lines.specs.Frames.{longestLine}
 use Rattle.held.specs.declared.Draft.{Draft}
 use Rattle.held.specs.Held.{over, counted, sent, noted}
 use Rattle.opening.specs.Opening.{opened}
@@ -56,7 +57,7 @@ lettered d line letter rest = letteredBy d line letter (length rest) (isHex rest
 -- more than 1,024 characters; none: a power-up; digits: a plain frame; else a letter's line
 unfoldable pub drafted : Draft → List ℕ → Said Draft
 drafted d line =
-    pick (ltb 1024 (length line)) (unread d)
+    pick (ltb longestLine (length line)) (unread d)
     (pick (eqb (length line) 0) (unchanged (over d) line)
     (pick (isHex line) (unchanged (sent d (spelt line)) line)
     (lettered d line (getD line 0 0) (part line 1 (length line)))))

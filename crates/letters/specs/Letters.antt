@@ -17,6 +17,7 @@ use Rattle.answers.specs.Answers.{numbered, refusalText, replyText}
 use Rattle.books.specs.Books.{booksText}
 use Rattle.orders.specs.Order.{orderIn}
 use Rattle.lines.specs.Lines.{Said}
+use Rattle.lines.specs.Frames.{longestLine}
 use Rattle.notices.specs.Notices.{noticeText}
 use Rattle.desk.specs.declared.Desk.{Desk}
 use Rattle.letters.specs.declared.Told.{Told}
@@ -41,18 +42,22 @@ powered k = record { next = afterEvent k (poweredUp (k .card) .card) (poweredUp 
 unfoldable pub counted : Desk → Outcome → Said Desk
 counted k o = record { next = afterEvent k (o .card) (o .stored); out = numbered (o .refusal) }
 
--- the length of the buffer lent to an event, at most 0200h
+-- the largest reply buffer
+abbrev pub mostRoom : ℕ
+mostRoom = 0x200
+
+-- the length of the buffer lent to an event, at most that
 unfoldable pub lentRoom : ℕ → ℕ
-lentRoom room = pick (ltb 0x200 room) 0x200 room
+lentRoom room = pick (ltb mostRoom room) mostRoom room
 
 -- the reply, or the bench refusal
 unfoldable pub replied : Desk → Outcome → Said Desk
 replied k o = record { next = afterEvent k (o .card) (o .stored); out = replyText (o .refusal) (o .out) }
 
--- ---- R: the length of the buffer lent to the events that follow, at most 0200h
+-- ---- R: the length of the buffer lent to the events that follow
 
 unfoldable pub lent : Desk → ℕ → Said Desk
-lent k n = pick (ltb 0x200 n) (unread k) (record { next = record { card = k .card; inputs = k .inputs; room = n; stored = k .stored; bench = k .bench }; out = numbered 0 })
+lent k n = pick (ltb mostRoom n) (unread k) (record { next = record { card = k .card; inputs = k .inputs; room = n; stored = k .stored; bench = k .bench }; out = numbered 0 })
 
 -- ---- N: what the bench hands in with the events that follow
 
@@ -110,10 +115,10 @@ letteredBy k letter n digits b =
 unfoldable pub lettered : Desk → ℕ → List ℕ → Said Desk
 lettered k letter rest = letteredBy k letter (length rest) (isHex rest) (pick (isHex rest) (spelt rest) [])
 
--- more than 1,024 characters; none: a power-up; else a letter's line on the bench
+-- a line that is too long; none: a power-up; else a letter's line on the bench
 unfoldable pub otherSaid : Desk → List ℕ → Said Desk
 otherSaid k line =
-    pick (ltb 1024 (length line)) (unread k)
+    pick (ltb longestLine (length line)) (unread k)
     (pick (eqb (length line) 0) (powered k)
     (pick (k .bench) (lettered k (getD line 0 0) (part line 1 (length line)))
     (unread k)))

@@ -8,9 +8,13 @@ use Rattle.tables.specs.Choice.{pick}
 use Rattle.text.specs.Hex.{isHex, spelt}
 use Rattle.lines.specs.Lines.{lineLength}
 
+-- the most characters of a line that is read
+abbrev pub longestLine : ℕ
+longestLine = 1024
+
 -- digits and nothing else, two for each byte: some, and at most 1,024
 unfoldable pub isFrame : List ℕ → Bool
-isFrame line = ltb 0 (length line) && leb (length line) 1024 && isHex line
+isFrame line = ltb 0 (length line) && leb (length line) longestLine && isHex line
 
 -- the bytes of a text's first line; none where that is no frame, or has no LF yet
 unfoldable pub frameIn : List ℕ → List ℕ
