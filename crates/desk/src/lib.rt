@@ -5,6 +5,7 @@ use keys::Keys;
 use limits::Limits;
 use settings::Settings;
 ghost use mathlib.Core.Path.{_≡_};
+ghost use Rattle.desk.specs.Room.{lentRoom};
 ghost use Rattle.desk.specs.Program.{programCard, programDesk};
 
 // A card on the desk, what the bench hands in with its events, the length of the reply buffer lent to its commands, the slot bytes
@@ -46,4 +47,17 @@ impl Desk {
             bench,
         }
     }
+}
+
+// The largest reply buffer.
+pub const MOST_ROOM: usize = 0x200;
+
+// The room lent to an event, at most the largest reply buffer.
+pub fn lent_room(room: usize) -> usize
+    ensures { λ r. ⌜ r ≡ lentRoom room ⌝ }
+{
+    if MOST_ROOM < room {
+        return MOST_ROOM;
+    }
+    room
 }

@@ -1,25 +1,19 @@
--- A letter's line from the bytes that were spelt, and what is told of a reply.
+-- A letter's line from the bytes that were spelt.
 use Prim.Native.Nat.{ℕ, _*_, _≤_, _<_}
 use mathlib.Core.Bool.{Bool, true, false, not, _&&_, _||_}
-use mathlib.Core.List.{List, [], _∷_}
-use mathlib.Core.Path.{_≡_, refl, sym, ap, _∙_}
-use borrow.Author.Tests.{eq-eqb, ne-eqb, eqb-true, ltb-true, ltb-false, le-leb, lt-leb}
+use mathlib.Core.List.{List}
+use mathlib.Core.Path.{_≡_, refl, ap, _∙_}
+use borrow.Author.Tests.{ne-eqb, eqb-true, ltb-true, ltb-false, le-leb, lt-leb}
 use lib.Dec.{eqb, leb, ltb}
-use lib.ListN.{length, getD}
+use lib.ListN.{length}
 use native.Mathlib.Omega.{arith}
 use Rattle.tables.specs.Choice.{pick, picked, passed, or-no, and-right}
-use Rattle.text.specs.Hex.{leading, inDigits}
+use Rattle.text.specs.Hex.{leading}
 use Rattle.lines.specs.Laws.{said-by}
-use Rattle.wire.specs.Bytes.{part}
-use Rattle.answers.specs.Answers.{refusalText, replyText}
-use Rattle.notices.specs.declared.Notice.{Notice}
-use Rattle.notices.specs.declared.Notice.the-variants.{Refusal, Status}
-use Rattle.notices.specs.Notices.{noticeText}
-use Rattle.card.specs.declared.Reply.{Reply}
-use Rattle.card.specs.Outcome.{Outcome, replyOf}
+use Rattle.card.specs.Outcome.{Outcome}
 use Rattle.desk.specs.declared.Desk.{Desk}
-use Rattle.letters.specs.Letters.{saidOf, afterEvent, unread, replied, openedOn, sentOn, longest, isOrder, letteredBy, lettered}
-use Rattle.letters.specs.Laws.{Plays, reply-bytes, Tells}
+use Rattle.told.specs.Told.{replied, openedOn, sentOn}
+use Rattle.letters.specs.Letters.{unread, longest, isOrder, letteredBy, lettered}
 
 module _ (k : Desk) (letter : ℕ) where
   -- where they are no digits, no line looks at them
@@ -81,26 +75,3 @@ module _ (k : Desk) (n : ℕ) (b : List ℕ) where
           → pick (not digits || (c && ltb n 2)) (unread k) (replied k (pick c (openedOn k b) (sentOn k b))) ≡ letteredBy k letter n digits b
       by true e h = rw (eqb-true letter 0x43 e) (ap (λ (x : Outcome). pick (not digits || ltb n 2) (unread k) (replied k x)) (picked (openedOn k b) (sentOn k b) refl) ∙ c-line digits (ltb n 2) refl)
       by false e h = rw (eqb-true letter 0x44 h) (ap (λ (x : Outcome). pick (not digits || false) (unread k) (replied k x)) (passed (openedOn k b) (sentOn k b) refl) ∙ d-line digits)
-
--- a reply of nothing and one of two bytes, as they are told
-pub tells-none : (r : ℕ) (x : List ℕ) → length x ≡ 0 → Tells (Refusal r) r x
-unfolding noticeText refusalText replyText inDigits
-tells-none r [] e p l g k = refl
-tells-none r (a ∷ x) e p l g k = absurd (omega arith)
-
-pub tells-two : (r : ℕ) (x : List ℕ) → r ≡ 0 → length x ≡ 2 → Tells (Status (getD x 0 0) (getD x 1 0)) r x
-unfolding noticeText replyText
-tells-two r [] z e p l g k = absurd (omega arith)
-tells-two r (a ∷ []) z e p l g k = absurd (omega arith)
-tells-two r (a ∷ b ∷ []) z e p l g k = sym (picked _ _ (eq-eqb r 0 z))
-tells-two r (a ∷ b ∷ c ∷ x) z e p l g k = absurd (omega arith)
-
--- what is told of a reply
-pub replied-by : (k : Desk) (o : Outcome) (after : List ℕ) (r : Reply) (n : Notice) → Plays o after r → Tells n (r .refusal) (part after 0 (r .len))
-    → saidOf (record { desk = afterEvent k (r .card) (r .stored); notice = n }) ≡ replied k o
-unfolding saidOf replied replyOf afterEvent
-replied-by k o after r n p t =
-    let c = r .card in
-    let m : r .refusal ≡ o .refusal = ap (λ (x : Reply). x .refusal) (p .0) in
-    let q = t (c .purse) (c .log) (c .channel .stage) (c .channel .chain) ∙ (λ i. replyText (m i) (reply-bytes o after r p .0 i)) in
-    λ i. record { next = afterEvent k (p .0 i .card) (p .0 i .stored); out = q i }

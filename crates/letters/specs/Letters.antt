@@ -8,27 +8,18 @@ use Rattle.tables.specs.Choice.{pick}
 use Rattle.wire.specs.Bytes.{part}
 use Rattle.channel.specs.declared.Inputs.{Inputs}
 use Rattle.access.specs.declared.Session.the-variants.{Nobody, Key}
-use Rattle.card.specs.declared.Card.{Card}
 use Rattle.card.specs.Outcome.{Outcome}
-use Rattle.card.specs.Events.{chainOpened, bytesSent, sessionChanged, poweredUp, personalised}
+use Rattle.card.specs.Events.{sessionChanged, poweredUp, personalised}
 use Rattle.text.specs.Hex.{isHex, spelt}
 use Rattle.decimal.specs.Decimal.{decimal}
-use Rattle.answers.specs.Answers.{numbered, refusalText, replyText}
+use Rattle.answers.specs.Answers.{numbered, refusalText}
 use Rattle.books.specs.Books.{booksText}
 use Rattle.orders.specs.Order.{orderIn}
 use Rattle.lines.specs.Lines.{Said}
 use Rattle.lines.specs.Frames.{longestLine}
-use Rattle.notices.specs.Notices.{noticeText}
 use Rattle.desk.specs.declared.Desk.{Desk}
-use Rattle.letters.specs.declared.Told.{Told}
-
--- what the code tells of a line; the books are those of the card after it
-unfoldable pub saidOf : Told → Said Desk
-saidOf r = record { next = r .desk; out = noticeText (r .notice) (r .desk .card .purse) (r .desk .card .log) (r .desk .card .channel .stage) (r .desk .card .channel .chain) }
-
--- the desk after an event that left the card c and stored n slot bytes
-unfoldable pub afterEvent : Desk → Card → ℕ → Desk
-afterEvent k c n = record { card = c; inputs = k .inputs; room = k .room; stored = n; bench = k .bench }
+use Rattle.desk.specs.Room.{mostRoom}
+use Rattle.told.specs.Told.{afterEvent, replied, openedOn, sentOn}
 
 -- a line that does not reach the card: `?`
 unfoldable pub unread : Desk → Said Desk
@@ -41,18 +32,6 @@ powered k = record { next = afterEvent k (poweredUp (k .card) .card) (poweredUp 
 -- the number, 0 where nothing was refused
 unfoldable pub counted : Desk → Outcome → Said Desk
 counted k o = record { next = afterEvent k (o .card) (o .stored); out = numbered (o .refusal) }
-
--- the largest reply buffer
-abbrev pub mostRoom : ℕ
-mostRoom = 0x200
-
--- the length of the buffer lent to an event, at most that
-unfoldable pub lentRoom : ℕ → ℕ
-lentRoom room = pick (ltb mostRoom room) mostRoom room
-
--- the reply, or the bench refusal
-unfoldable pub replied : Desk → Outcome → Said Desk
-replied k o = record { next = afterEvent k (o .card) (o .stored); out = replyText (o .refusal) (o .out) }
 
 -- ---- R: the length of the buffer lent to the events that follow
 
@@ -67,16 +46,6 @@ inputsIn b = record { random = part b 0 16; ti = part b 16 20 }
 
 unfoldable pub handed : Desk → Inputs → Said Desk
 handed k u = record { next = record { card = k .card; inputs = u; room = k .room; stored = k .stored; bench = k .bench }; out = numbered 0 }
-
--- ---- C and D: a chain on the card of the desk
-
--- its opening, the frame f
-abbrev pub openedOn : Desk → List ℕ → Outcome
-openedOn k f = chainOpened (k .card) f (lentRoom (k .room))
-
--- the file bytes b
-abbrev pub sentOn : Desk → List ℕ → Outcome
-sentOn k b = bytesSent (k .card) b (lentRoom (k .room))
 
 -- ---- B: the books
 

@@ -1,13 +1,13 @@
 // The lines that begin with a letter, on the bench alone.
-use super::MOST_ROOM;
-use super::Told;
 use super::chain;
 use access::Session;
 use card::Card;
 use channel::Inputs;
 use desk::Desk;
+use desk::MOST_ROOM;
 use notices::Notice;
 use orders::Order;
+use told::Told;
 ghost use mathlib.Core.Path.{_≡_};
 ghost use mathlib.Core.Bool.{true, false, _||_};
 ghost use Prim.Native.Nat.{_+_, _*_, _≤_};
@@ -15,7 +15,8 @@ ghost use lib.Dec.{eqb};
 ghost use lib.ListN.{length, getD};
 ghost use Rattle.card.specs.Events.{personalised, sessionChanged};
 ghost use Rattle.orders.specs.Order.{orderIn};
-ghost use Rattle.letters.specs.Letters.{saidOf, counted, lent, inputsIn, handed, letteredBy, lettered};
+ghost use Rattle.told.specs.Told.{saidOf};
+ghost use Rattle.letters.specs.Letters.{counted, lent, inputsIn, handed, letteredBy, lettered};
 
 // The digits of the longest order.
 const LONGEST: usize = 218;

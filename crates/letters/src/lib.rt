@@ -4,27 +4,10 @@ mod chain;
 
 use desk::Desk;
 use notices::Notice;
+use told::Told;
 ghost use mathlib.Core.Path.{_≡_};
-ghost use Rattle.letters.specs.Letters.{saidOf, lentRoom, powered, otherSaid};
-
-// A desk after such a line, and the answer.
-pub struct Told {
-    pub desk: Desk,
-    pub notice: Notice,
-}
-
-// The largest reply buffer.
-pub const MOST_ROOM: usize = 0x200;
-
-// The room lent to an event, at most the largest reply buffer.
-pub fn lent_room(room: usize) -> usize
-    ensures { λ r. ⌜ r ≡ lentRoom room ⌝ }
-{
-    if MOST_ROOM < room {
-        return MOST_ROOM;
-    }
-    room
-}
+ghost use Rattle.told.specs.Told.{saidOf};
+ghost use Rattle.letters.specs.Letters.{powered, otherSaid};
 
 // An empty line: a power-up.
 fn power_up(mut desk: Desk) -> Told

@@ -1,20 +1,21 @@
 -- Laws of a frame at the front of a text, found by spelling the digits there.
 use Prim.Native.Nat.{ℕ, zero, suc, _+_, _-_, _*_, _%_, _≤_, _<_}
-use mathlib.Core.Bool.{Bool, true, false, _&&_, true≢false}
+use mathlib.Core.Bool.{Bool, true, false, _&&_, _||_, true≢false}
 use mathlib.Core.List.{List, [], _∷_, _++_}
 use mathlib.Core.Path.{_≡_, refl, sym, ap, _∙_}
 use borrow.Author.Tests.{lt-ltb, le-leb, ne-eqb, eq-eqb, leb-true, ltb-true, eqb-true}
 use lib.Dec.{eqb, leb, ltb}
 use lib.ListN.{length, take, drop, getD, length-take, length-drop, drop-of-length-le}
-use native.Mathlib.Nat.{sub-zero}
+use lib.Seq.{getD-drop}
+use native.Mathlib.Nat.{add-zero, sub-zero}
 use native.Mathlib.Omega.{arith}
 use Rattle.tables.specs.Choice.{pick, picked, passed, and-both, and-yes}
-use Rattle.wire.specs.Bytes.{part, Shows}
-use Rattle.wire.specs.Laws.{shows-front}
+use Rattle.wire.specs.Bytes.{part, laid, Shows}
+use Rattle.wire.specs.Laws.{laid-none, shows-front}
 use Rattle.text.specs.Hex.{digitOf, allDigits, isHex, spelt, leading}
 use Rattle.text.specs.Laws.{leading-most, leading-part, leading-stop, length-spelt}
 use Rattle.lines.specs.Lines.{lineLength}
-use Rattle.lines.specs.Frames.{isFrame, frameIn}
+use Rattle.lines.specs.Frames.{isFrame, frameIn, isChained, tried}
 use Rattle.lines.specs.Laws.{Lines, line-ends, length-most, length-stop}
 
 end-no-digit : 16 ≤ digitOf 0x0A
@@ -72,6 +73,35 @@ frame-odd s o = by (ltb (lineLength s) (length s) && isFrame (take (lineLength s
         let n : length (take (lineLength s) s) ≡ lineLength s = omega (arith, length-take (lineLength s) s, length-most s) in
         absurd (omega (arith, ap (λ (k : ℕ). k % 2) n))
 
+-- ---- a line of a chain, by its first character and its end e
+
+module _ (t : List ℕ) (at : ℕ) {b : ℕ} (g : b ≡ getD t at 0) where
+  begins : (eqb b 0x43 || eqb b 0x44) ≡ (eqb (getD (drop at t) 0 0) 0x43 || eqb (getD (drop at t) 0 0) 0x44)
+  begins = ap (λ (c : ℕ). eqb c 0x43 || eqb c 0x44) (g ∙ (ap (λ (i : ℕ). getD t i 0) (sym (add-zero at)) ∙ sym (getD-drop at t 0 0)))
+
+  pub chained-odd : {e : ℕ} → (eqb b 0x43 || eqb b 0x44) ≡ true → e ≡ at + lineLength (drop at t) → eqb ((e - at) % 2) 1 ≡ isChained (drop at t)
+  unfolding isChained
+  chained-odd {e = e} y h =
+      let n : e - at ≡ lineLength (drop at t) = omega arith in
+      rw (n, sym begins, y) refl
+
+  pub chained-not : (eqb b 0x43 || eqb b 0x44) ≡ false → false ≡ isChained (drop at t)
+  unfolding isChained
+  chained-not y = rw (sym begins, y) refl
+
+pub frame-chained : (s : List ℕ) → isChained s ≡ true → [] ≡ frameIn s
+unfolding isChained
+frame-chained s e = frame-odd s (eqb-true _ _ (and-yes (eqb (getD s 0 0) 0x43 || eqb (getD s 0 0) 0x44) (eqb (lineLength s % 2) 1) e .1))
+
+-- nothing is spelt of it, nor past the end
+pub tried-chained : (s buf : List ℕ) → isChained s ≡ true → buf ≡ laid buf 0 (tried s)
+unfolding tried
+tried-chained s buf e = laid-none buf ∙ ap (laid buf 0) (sym (picked [] (take 512 (leading s)) e))
+
+pub tried-past : (t buf : List ℕ) (at : ℕ) → length t ≤ at → buf ≡ laid buf 0 (tried (drop at t))
+unfolding tried isChained leading pick
+tried-past t buf at h = rw (drop-of-length-le t {i = at} h) (laid-none buf)
+
 -- of the digits at the front of s, at most 512 bytes were spelt
 module _ (s frame after : List ℕ) (size : ℕ) (f : length frame ≡ 512) (w : Shows (take (length frame) (leading s)) frame after size) where
   size-is : size ≡ length (take 512 (leading s))
@@ -82,6 +112,10 @@ module _ (s frame after : List ℕ) (size : ℕ) (f : length frame ≡ 512) (w :
 
   bytes : part after 0 size ≡ take 512 (leading s)
   bytes = ap (λ n. take n after) (sub-zero size) ∙ (shows-front _ frame after size w ∙ ap (λ n. take n (leading s)) f)
+
+  pub tried-all : false ≡ isChained s → after ≡ laid frame 0 (tried s)
+  unfolding tried
+  tried-all n = w .0 ∙ ap (laid frame 0) (ap (λ n. take n (leading s)) f ∙ sym (passed [] (take 512 (leading s)) (sym n)))
 
   -- LF behind them
   pub frame-there : 0 < size → getD s (2 * size) 0 ≡ 0x0A → (size ≡ length (frameIn s)) × (part after 0 size ≡ frameIn s)

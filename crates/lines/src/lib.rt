@@ -4,10 +4,10 @@ ghost use mathlib.Core.List.{[], _∷_, _++_};
 ghost use mathlib.Core.Bool.{true};
 ghost use Prim.Native.Nat.{_+_, _-_, _≤_};
 ghost use lib.ListN.{length, drop};
-ghost use Rattle.wire.specs.Bytes.{part};
+ghost use Rattle.wire.specs.Bytes.{part, laid};
 ghost use Rattle.text.specs.Shown.{inRoom, Adds};
 ghost use Rattle.lines.specs.Lines.{lineLength};
-ghost use Rattle.lines.specs.Frames.{frameIn};
+ghost use Rattle.lines.specs.Frames.{frameIn, isChained, tried};
 ghost use Rattle.lines.specs.Laws.{Nears};
 
 // Whether none of the two characters from place i on is LF.
@@ -53,7 +53,7 @@ pub fn line_end(text: &[u8], at: usize) -> usize
 // Whether the line at place at begins as one of a chain and has an odd number of characters. It is no frame then, and its digits,
 // which may be many, are not spelt in vain.
 fn is_chained(text: &[u8], at: usize) -> bool
-    ensures { λ r. ⌜ (r ≡ true → [] ≡ frameIn (drop at (now (text .entry)))) ⌝ }
+    ensures { λ r. ⌜ r ≡ isChained (drop at (now (text .entry))) ⌝ }
 {
     let first = wire::byte_at(text, at);
     if (first == b'C') | (first == b'D') {
@@ -65,7 +65,7 @@ fn is_chained(text: &[u8], at: usize) -> bool
 // Spells the frame that stands at place at, up to its LF, into the front of bytes, and answers the number of its bytes; 0 where
 // the line there is none.
 pub fn spell_frame(text: &[u8], at: usize, bytes: &mut [u8; 512]) -> usize
-    ensures { λ r. ⌜ (r ≡ length (frameIn (drop at (now (text .entry))))) × (part (now (bytes .exit)) 0 r ≡ frameIn (drop at (now (text .entry)))) ⌝ }
+    ensures { λ r. ⌜ (r ≡ length (frameIn (drop at (now (text .entry))))) × (part (now (bytes .exit)) 0 r ≡ frameIn (drop at (now (text .entry)))) × (now (bytes .exit) ≡ laid (now (bytes .entry)) 0 (tried (drop at (now (text .entry))))) ⌝ }
 {
     if text.len() <= at {
         return 0;

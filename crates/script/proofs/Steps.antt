@@ -21,9 +21,10 @@ use Rattle.answers.specs.Answers.{numbered, replyText, replyLine}
 use Rattle.card.specs.declared.Reply.{Reply}
 use Rattle.card.specs.Outcome.{Outcome, replyOf}
 use Rattle.desk.specs.declared.Desk.{Desk}
-use Rattle.letters.specs.declared.Told.{Told}
-use Rattle.letters.specs.Letters.{saidOf, afterEvent, replied, otherSaid}
-use Rattle.letters.specs.Laws.{Plays, reply-bytes}
+use Rattle.told.specs.declared.Told.{Told}
+use Rattle.told.specs.Told.{saidOf, afterEvent, replied}
+use Rattle.told.specs.Laws.{Plays, reply-bytes}
+use Rattle.letters.specs.Letters.{otherSaid}
 use Rattle.script.specs.Lines.{commandedOn, lineSaid}
 
 -- ---- a line that is answered by a reply

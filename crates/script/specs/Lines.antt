@@ -8,7 +8,9 @@ use Rattle.text.specs.Hex.{spelt}
 use Rattle.lines.specs.Lines.{Said}
 use Rattle.lines.specs.Frames.{isFrame}
 use Rattle.desk.specs.declared.Desk.{Desk}
-use Rattle.letters.specs.Letters.{lentRoom, replied, otherSaid}
+use Rattle.desk.specs.Room.{lentRoom}
+use Rattle.told.specs.Told.{replied}
+use Rattle.letters.specs.Letters.{otherSaid}
 
 -- a command to the card on the desk
 abbrev pub commandedOn : Desk → List ℕ → Outcome

@@ -1,13 +1,13 @@
 // Scripts: lines of text that play a card, each answered by a line.
 use card::Reply;
 use desk::Desk;
-use letters::Told;
+use told::Told;
 ghost use mathlib.Core.List.{[], _∷_, _++_};
 ghost use Prim.Native.Nat.{_-_};
 ghost use lib.ListN.{length};
 ghost use Rattle.text.specs.Shown.{inRoom, Adds};
 ghost use Rattle.lines.specs.Lines.{linesAfter, went, Goes};
-ghost use Rattle.letters.specs.Letters.{saidOf};
+ghost use Rattle.told.specs.Told.{saidOf};
 ghost use Rattle.script.specs.Lines.{lineSaid};
 
 // How far a script was played: the desk, the characters read, and the characters written.
@@ -31,7 +31,7 @@ fn put_told(told: Told, at: usize, out: &mut [u8]) -> usize
 }
 
 // Room for every answer to a command: two digits a byte of the largest reply buffer, and LF.
-const MOST_ANSWER: usize = 2 * letters::MOST_ROOM + 1;
+const MOST_ANSWER: usize = 2 * desk::MOST_ROOM + 1;
 
 // Plays the whole lines of a text, as far as their answers fit out. The card of the run is the last reply's: a card is long, and
 // its way from a reply back to the desk would be one more copy of it in each turn. A desk that a command may have to leave as it
@@ -53,7 +53,7 @@ pub fn run(mut desk: Desk, text: &[u8], out: &mut [u8]) -> Went
     while at < text.len() {
         let size = lines::spell_frame(text, at, &mut frame);
         if 0 < size {
-            let lent = letters::lent_room(desk.room);
+            let lent = desk::lent_room(desk.room);
             let inputs = desk.inputs;
             let card = played.card;
             if out.len() - n < MOST_ANSWER {

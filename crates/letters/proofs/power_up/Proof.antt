@@ -1,5 +1,6 @@
 use Rattle.notices.specs.Notices.{noticeText}
-use Rattle.letters.specs.Letters.{saidOf, afterEvent, powered}
+use Rattle.told.specs.Told.{saidOf, afterEvent}
+use Rattle.letters.specs.Letters.{powered}
 use Rattle.answers.specs.Answers.{refusalText}
 use Rattle.card.specs.declared.Reply.{Reply}
 use Rattle.card.specs.Outcome.{replyOf}

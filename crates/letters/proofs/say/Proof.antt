@@ -1,5 +1,6 @@
 use Rattle.notices.specs.Notices.{noticeText}
-use Rattle.letters.specs.Letters.{saidOf, unread, otherSaid, lettered}
+use Rattle.told.specs.Told.{saidOf}
+use Rattle.letters.specs.Letters.{unread, otherSaid, lettered}
 use Rattle.wire.specs.Bytes.{part}
 use Rattle.wire.specs.Laws.{length-part}
 use native.Mathlib.Omega.{arith}

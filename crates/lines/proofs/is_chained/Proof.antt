@@ -1,10 +1,4 @@
-use Rattle.lines.specs.Lines.{lineLength}
-use Rattle.lines.specs.FrameLaws.{frame-odd}
-use borrow.Author.Tests.{eqb-true}
-use lib.ListN.{drop}
-use Prim.Native.Nat.{ℕ, _-_, _%_}
-use mathlib.Core.Bool.{false≢true}
-use mathlib.Core.Path.{_≡_, ap, _∙_}
+use Rattle.lines.specs.FrameLaws.{chained-odd, chained-not}
 use denote.Ref.{now}
 use native.Mathlib.Omega.{arith}
 use Rattle.lines.proofs.is_chained.Statement.{statement}
@@ -20,13 +14,15 @@ sub-result : tie.Need-sub-result
 sub-result c = omega (arith, c .line-end .ensures)
 
 returns : tie.Need-returns
-returns c o =
-    let a = c .before .before .before .before .args in
-    let n : lineLength (drop (a .at) (now (a .text))) ≡ c .line-end .result - a .at = omega (arith, c .line-end .ensures) in
-    frame-odd (drop (a .at) (now (a .text))) (ap (λ (k : ℕ). k % 2) n ∙ eqb-true _ _ o)
+returns c =
+    let k = c .before in
+    let a = k .before .before .before .args in
+    chained-odd (now (a .text)) (a .at) (k .before .byte-at .ensures) (k .if1 .taken) (c .line-end .ensures)
 
 returns-2 : tie.Need-returns-2
-returns-2 c o = absurd (false≢true o)
+returns-2 c =
+    let a = c .before .before .before .args in
+    chained-not (now (a .text)) (a .at) (c .before .byte-at .ensures) (c .if1 .left)
 
 pub is-chained-spec : {M : Type 1} → statement M
 is-chained-spec =

@@ -1,7 +1,8 @@
-use Rattle.lines.specs.FrameLaws.{size-most, frame-there, frame-none, frame-past}
+use Rattle.lines.specs.FrameLaws.{size-most, frame-there, frame-none, frame-past, frame-chained, tried-past, tried-chained, tried-all}
 use Rattle.tables.specs.Choice.{and-yes}
 use Rattle.text.specs.Hex.{leading}
-use Rattle.wire.specs.Bytes.{part, Shows}
+use Rattle.lines.specs.Frames.{tried}
+use Rattle.wire.specs.Bytes.{part, laid, Shows}
 use Prim.Native.Nat.{ℕ, _+_, _-_, _*_, _≤_}
 use borrow.Author.Needs.{needs}
 use borrow.Author.Tests.{ltb-true, eqb-true}
@@ -42,6 +43,12 @@ module _ (k : tie.After-spell) where
   most : (k .spell .result ≤ 512) × (2 * k .spell .result ≤ length from)
   most = size-most from (now (start .args .bytes)) _ _ room shown
 
+  -- all of them are laid
+  over : k .spell .last .1 .0 ≡ laid (now (start .args .bytes)) 0 (tried from)
+  over =
+      let i = k .before .before .before in
+      tried-all from (now (start .args .bytes)) _ _ room shown (sym (i .if2 .left) ∙ i .before .is-chained .ensures)
+
   -- the character behind them
   next : (i : ℕ) → getD text (start .args .at + i) 0 ≡ getD from i 0
   next i = sym (getD-drop (start .args .at) text i 0)
@@ -49,13 +56,21 @@ module _ (k : tie.After-spell) where
 -- ---- the needs
 
 returns : tie.Need-returns
-returns c = let a = c .before .before .args in let e = frame-past (now (a .text)) (a .at) (c .if1 .taken) in (ap length e, e)
+returns c =
+    let a = c .before .before .args in
+    let e = frame-past (now (a .text)) (a .at) (c .if1 .taken) in
+    (ap length e, e, tried-past (now (a .text)) (now (a .bytes)) (a .at) (c .if1 .taken))
 
 is-chained-requires : tie.Need-is-chained-requires
 is-chained-requires c κs = tt
 
 returns-2 : tie.Need-returns-2
-returns-2 c = let e = c .before .is-chained .ensures (c .if2 .taken) in (ap length e, e)
+returns-2 c =
+    let a = c .before .before .before .before .args in
+    let s = drop (a .at) (now (a .text)) in
+    let y = sym (c .before .is-chained .ensures) ∙ c .if2 .taken in
+    let e = frame-chained s y in
+    (ap length e, e, tried-chained s (now (a .bytes)) y)
 
 sub-spell : tie.Need-sub-spell
 sub-spell c = search needs
@@ -84,7 +99,8 @@ returns-3 c =
     let r = k .spell .result in
     let a = and-yes (ltb 0 r) (eqb (c .before .byte-at .result) 0x0A) (c .if3 .taken) in
     let g = sym (next k (2 * r)) ∙ (sym (c .before .byte-at .ensures) ∙ eqb-true _ _ (a .1)) in
-    frame-there (from k) (now (start k .args .bytes)) _ _ (room k) (shown k) (ltb-true _ _ (a .0)) g
+    let e = frame-there (from k) (now (start k .args .bytes)) _ _ (room k) (shown k) (ltb-true _ _ (a .0)) g in
+    (e .0, e .1, over k)
 
 returns-4 : tie.Need-returns-4
 returns-4 c =
@@ -92,7 +108,7 @@ returns-4 c =
     let r = k .spell .result in
     let n = ap (λ (b : ℕ). ltb 0 r && eqb b 0x0A) (sym (c .before .byte-at .ensures ∙ next k (2 * r))) ∙ c .if3 .left in
     let e = frame-none (from k) (now (start k .args .bytes)) _ _ (room k) (shown k) n in
-    (ap length e, e)
+    (ap length e, e, over k)
 
 pub spell-frame-spec : {M : Type 1} → statement M
 spell-frame-spec =

@@ -1,4 +1,4 @@
-use Rattle.letters.specs.Letters.{saidOf}
+use Rattle.told.specs.Told.{saidOf}
 use borrow.Author.Needs.{needs}
 use Rattle.script.proofs.put_told.Statement.{statement}
 use Rattle.script.proofs.put_told.Tie as tie

@@ -1,8 +1,9 @@
 use Rattle.script.specs.Lines.{commandedOn, lineSaid}
 use Rattle.script.proofs.Steps.{front-holds, own-state, written, line, played-full, played-next, ends, told-full, told-next}
 use Rattle.lines.specs.Sofar.{Sofar, sofar-start, sofar-length, sofar-end, sofar-part, sofar-as}
-use Rattle.letters.specs.Letters.{afterEvent}
-use Rattle.letters.specs.Laws.{Plays, lent-most, plays-lent, reply-bytes}
+use Rattle.told.specs.Told.{afterEvent}
+use Rattle.told.specs.Laws.{Plays, plays-lent, reply-bytes}
+use Rattle.desk.specs.Laws.{lent-most}
 use Rattle.card.specs.Events.{commanded}
 use Rattle.desk.specs.declared.Desk.{Desk}
 use Rattle.wire.specs.Bytes.{part}

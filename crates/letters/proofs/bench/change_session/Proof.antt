@@ -1,5 +1,6 @@
 use Rattle.notices.specs.Notices.{noticeText}
-use Rattle.letters.specs.Letters.{saidOf, afterEvent, counted}
+use Rattle.told.specs.Told.{saidOf, afterEvent}
+use Rattle.letters.specs.Letters.{counted}
 use Rattle.answers.specs.Answers.{numbered}
 use Rattle.card.specs.declared.Reply.{Reply}
 use Rattle.card.specs.Outcome.{replyOf}

@@ -1,5 +1,6 @@
 use Rattle.notices.specs.Notices.{noticeText}
-use Rattle.letters.specs.Letters.{saidOf, inputsIn, handed}
+use Rattle.told.specs.Told.{saidOf}
+use Rattle.letters.specs.Letters.{inputsIn, handed}
 use Rattle.wire.specs.Laws.{part-over-zeros}
 use denote.Ref.{now}
 use native.Mathlib.Omega.{arith}

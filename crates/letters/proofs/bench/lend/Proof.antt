@@ -1,5 +1,6 @@
 use Rattle.notices.specs.Notices.{noticeText}
-use Rattle.letters.specs.Letters.{saidOf, unread, lent}
+use Rattle.told.specs.Told.{saidOf}
+use Rattle.letters.specs.Letters.{unread, lent}
 use Rattle.tables.specs.Choice.{picked, passed}
 use borrow.Author.Tests.{lt-ltb, le-ltb}
 use mathlib.Core.Path.{sym}

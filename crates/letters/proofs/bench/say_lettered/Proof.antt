@@ -1,6 +1,7 @@
 use Rattle.lines.specs.Laws.{spelt-there}
 use Rattle.letters.proofs.Steps.{lettered-by, lettered-long}
-use Rattle.letters.specs.Letters.{saidOf, unread}
+use Rattle.told.specs.Told.{saidOf}
+use Rattle.letters.specs.Letters.{unread}
 use Rattle.notices.specs.Notices.{noticeText}
 use Rattle.text.specs.Hex.{leading}
 use Rattle.text.specs.Laws.{leading-most}

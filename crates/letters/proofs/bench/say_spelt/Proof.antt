@@ -1,5 +1,6 @@
 use Rattle.notices.specs.Notices.{noticeText}
-use Rattle.letters.specs.Letters.{saidOf, unread, counted, lent, bookKept, storedTold, letteredBy}
+use Rattle.told.specs.Told.{saidOf}
+use Rattle.letters.specs.Letters.{unread, counted, lent, bookKept, storedTold, letteredBy}
 use Rattle.access.specs.declared.Session.the-variants.{Key}
 use Rattle.card.specs.Events.{sessionChanged}
 use Rattle.tables.specs.Choice.{order, or-no, and-yes, and-left}

@@ -1,5 +1,6 @@
 use Rattle.letters.proofs.Steps.{lettered-by, chained-by}
-use Rattle.letters.specs.Letters.{saidOf, unread, replied, openedOn, sentOn, lettered}
+use Rattle.told.specs.Told.{saidOf, replied, openedOn, sentOn}
+use Rattle.letters.specs.Letters.{unread, lettered}
 use Rattle.notices.specs.Notices.{noticeText}
 use Rattle.lines.specs.Laws.{spelt-there}
 use Rattle.text.specs.Hex.{leading}

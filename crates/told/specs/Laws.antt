@@ -3,13 +3,12 @@ use Prim.Native.Nat.{ℕ, _-_, _≤_}
 use mathlib.Core.Bool.{Bool}
 use mathlib.Core.List.{List, _++_}
 use mathlib.Core.Path.{_≡_, refl, sym, ap, subst, _∙_}
-use borrow.Author.Tests.{ltb-false}
-use lib.Dec.{ltb, eqb}
+use lib.Dec.{eqb}
 use lib.ListN.{length, take, drop}
 use lib.Seq.{take-append-le}
 use native.Mathlib.Nat.{sub-zero}
 use native.Mathlib.Omega.{arith}
-use Rattle.tables.specs.Choice.{pick, pick-both, pick-cases}
+use Rattle.tables.specs.Choice.{pick, pick-both}
 use Rattle.wire.specs.Bytes.{part, word}
 use Rattle.wire.specs.Laws.{length-part, front-laid, front-fits}
 use Rattle.purse.specs.declared.Purse.{Purse}
@@ -24,7 +23,8 @@ use Rattle.card.specs.declared.Reply.{Reply}
 use Rattle.card.specs.View.{broken}
 use Rattle.card.specs.Outcome.{Outcome, replyOf, Answered, bench}
 use Rattle.card.specs.Events.{Played, refused, laidInto, benchRefusal, benched, opening, openingPlayed, chainOpened, delivered, bytesPlayed, bytesSent}
-use Rattle.letters.specs.Letters.{lentRoom}
+use Rattle.desk.specs.Room.{lentRoom}
+use Rattle.desk.specs.Laws.{lent-most}
 
 -- ---- a reply read back from the part of the buffer that was lent; f is the outcome by the length of that part
 
@@ -42,10 +42,6 @@ plays-part f reply after room r h k l a =
     let x : length (o .out) ≤ length (part reply 0 room) = front-fits (part reply 0 room) (o .out) (ap length (sym (b .1)) ∙ l) in
     let t : take (length (o .out)) after ≡ o .out = rw (b .1) (front-laid (part reply 0 room) (o .out)) in
     (b .0, take-append-le (length (o .out)) after (drop (room - 0) reply) (omega arith) ∙ t, omega arith)
-
-pub lent-most : (room : ℕ) → lentRoom room ≤ 512
-unfolding lentRoom
-lent-most room = pick-cases (λ (n : ℕ). n ≤ 512) (ltb 0x200 room) 0x200 room (λ t. omega arith) (λ t. ltb-false 0x200 room t)
 
 pub plays-lent : (f : ℕ → Outcome) (reply after : List ℕ) (m room : ℕ) (r : Reply) → room ≡ lentRoom m → 512 ≤ length reply
     → length after ≡ length (part reply 0 room) → Answered (f (length (part reply 0 room))) (part reply 0 room) after r

@@ -1,7 +1,7 @@
 use Rattle.tables.specs.Choice.{choice}
-use Rattle.letters.specs.Letters.{lentRoom}
-use Rattle.letters.proofs.lent_room.Statement.{statement}
-use Rattle.letters.proofs.lent_room.Tie as tie
+use Rattle.desk.specs.Room.{lentRoom}
+use Rattle.desk.proofs.lent_room.Statement.{statement}
+use Rattle.desk.proofs.lent_room.Tie as tie
 
 returns : tie.Need-returns
 unfolding lentRoom

@@ -1,6 +1,7 @@
-use Rattle.letters.proofs.Steps.{replied-by}
-use Rattle.letters.specs.Letters.{afterEvent, openedOn, sentOn}
-use Rattle.letters.specs.Laws.{Plays, Brief, lent-most, plays-lent, reply-bytes, opening-brief, bytes-brief}
+use Rattle.told.proofs.Steps.{replied-by}
+use Rattle.told.specs.Told.{afterEvent, openedOn, sentOn}
+use Rattle.told.specs.Laws.{Plays, Brief, plays-lent, reply-bytes, opening-brief, bytes-brief}
+use Rattle.desk.specs.Laws.{lent-most}
 use Rattle.card.specs.declared.Reply.{Reply}
 use Rattle.card.specs.Outcome.{Outcome, replyOf}
 use Rattle.card.specs.Events.{chainOpened, bytesSent}
@@ -13,8 +14,8 @@ use Prim.Native.Nat.{ℕ, _-_}
 use mathlib.Core.List.{List, _++_}
 use mathlib.Core.Path.{_≡_, ap}
 use borrow.Author.Needs.{needs}
-use Rattle.letters.proofs.chain.play.Statement.{statement}
-use Rattle.letters.proofs.chain.play.Tie as tie
+use Rattle.told.proofs.play.Statement.{statement}
+use Rattle.told.proofs.play.Tie as tie
 
 -- the card has replied, into the front of its buffer
 module _ (k : tie.After-event) where

@@ -3,8 +3,8 @@ use Rattle.tables.specs.Choice.{picked, passed}
 use mathlib.Core.Path.{sym, subst}
 use denote.Ref.{now}
 use borrow.Author.Needs.{needs}
-use Rattle.letters.proofs.chain.event.Statement.{statement}
-use Rattle.letters.proofs.chain.event.Tie as tie
+use Rattle.told.proofs.event.Statement.{statement}
+use Rattle.told.proofs.event.Tie as tie
 
 open-chain-requires : tie.Need-open-chain-requires
 open-chain-requires c κs = search needs

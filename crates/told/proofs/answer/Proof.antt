@@ -1,9 +1,9 @@
-use Rattle.letters.proofs.Steps.{tells-none, tells-two}
+use Rattle.told.proofs.Steps.{tells-none, tells-two}
 use denote.Ref.{now}
 use native.Mathlib.Omega.{arith}
 use borrow.Author.Needs.{needs}
-use Rattle.letters.proofs.chain.answer.Statement.{statement}
-use Rattle.letters.proofs.chain.answer.Tie as tie
+use Rattle.told.proofs.answer.Statement.{statement}
+use Rattle.told.proofs.answer.Tie as tie
 
 returns : tie.Need-returns
 returns c = let a = c .before .args in tells-none (a .refusal) (now (a .reply)) (c .if1 .taken)
