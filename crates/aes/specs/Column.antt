@@ -3,7 +3,7 @@ use Prim.Native.Nat.{ℕ, _*_, _%_}
 use mathlib.Core.List.{List, [], _∷_}
 use lib.ListN.{getD}
 use Rattle.field.specs.Field.{_•_}
-use Rattle.field.specs.Bytes.{tabled}
+use Rattle.lookup.specs.Tables.{tabled}
 
 -- a function on each byte, with the byte at place i from place i times far, modulo 16
 abbrev pub taken : (ℕ → ℕ) → List ℕ → ℕ → List ℕ

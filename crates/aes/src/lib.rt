@@ -2,7 +2,7 @@
 mod steps;
 
 ghost use mathlib.Core.Path.{_≡_};
-ghost use Rattle.field.specs.Bytes.{table};
+ghost use Rattle.lookup.specs.Tables.{table};
 ghost use Rattle.fips197.specs.Sbox.{sbox, invSbox};
 ghost use Rattle.fips197.specs.Cipher.{round, cipher, invRound, invCipher};
 

@@ -3,7 +3,7 @@ ghost use mathlib.Core.Path.{_≡_};
 ghost use mathlib.Core.List.{_++_};
 ghost use Prim.Native.Nat.{ℕ, _≤_};
 ghost use Rattle.field.specs.Field.{xtime};
-ghost use Rattle.field.specs.Bytes.{table};
+ghost use Rattle.lookup.specs.Tables.{table};
 ghost use Rattle.fips197.specs.Steps.{bytewise, shiftRows, mixed, mixColumns, invShiftRows, unmixed, invMixColumns};
 ghost use Rattle.aes.specs.Column.{taken, column, multiples};
 
@@ -17,7 +17,7 @@ fn substituted(t: &[u8; 256], s: [u8; 16], far: usize) -> [u8; 16]
     let mut i: usize = 0;
     while i < 16 {
         let from = i * far % 16;
-        r[i] = sbox::look(t, s[from]);
+        r[i] = lookup::look(t, s[from]);
         i += 1;
     }
     r

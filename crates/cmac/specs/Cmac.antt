@@ -5,7 +5,8 @@ use lib.Dec.{eqb}
 use lib.ListN.{length, getD, take, drop, replicate}
 use Rattle.tables.specs.Choice.{pick}
 use Rattle.field.specs.Field.{_⊕_, onlyIf}
-use Rattle.field.specs.Bytes.{tabled, _⊞_, zeros}
+use Rattle.lookup.specs.Tables.{tabled}
+use Rattle.field.specs.Bytes.{_⊞_, zeros}
 use Rattle.fips197.specs.Keys.{keyExpansion}
 use Rattle.fips197.specs.Cipher.{cipher}
 

@@ -1,8 +1,9 @@
 -- Lists of bytes.
-use Prim.Native.Nat.{ℕ, zero, suc, _<_}
+use Prim.Native.Nat.{ℕ, _<_}
 use mathlib.Core.List.{List, [], _∷_}
 use mathlib.Core.Path.{_≡_}
 use lib.ListN.{length, getD, replicate}
+use Rattle.lookup.specs.Tables.{tabled}
 use Rattle.field.specs.Field.{_⊕_}
 
 -- each number is a byte
@@ -18,15 +19,6 @@ pub record Sized (n : ℕ) (l : List ℕ) : Type 0 where
 -- sixteen bytes
 abbrev pub Block : List ℕ → Type 0
 Block l = Sized 16 l
-
--- f 0, f 1 and on, n elements
-abbrev pub tabled : {A : Type 0} → ℕ → (ℕ → A) → List A
-tabled zero f = []
-tabled (suc n) f = f 0 ∷ tabled n (λ i. f (suc i))
-
--- the table of a function of a byte
-unfoldable pub table : (ℕ → ℕ) → List ℕ
-table f = tabled 256 f
 
 -- the sum of n bytes and n bytes, each to each
 abbrev pub sum : ℕ → List ℕ → List ℕ → List ℕ

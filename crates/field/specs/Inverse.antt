@@ -4,7 +4,7 @@ use Prim.Native.Nat.{ℕ, zero, suc, _<_}
 use native.Mathlib.Nat.{le-of-suc-le-suc}
 use lib.ListN.{getD}
 use Rattle.field.specs.Field.{_•_, xtime, inverse}
-use Rattle.field.specs.Every.{agree}
+use Rattle.lookup.specs.Every.{agree}
 use Rattle.field.specs.Inverses.{inverses, inverse-at}
 
 from-one : (x : ℕ) → x < 255 → suc x • getD inverses (suc x) 0 ≡ 1

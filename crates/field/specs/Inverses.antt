@@ -7,9 +7,9 @@ use native.Mathlib.Omega.{arith}
 use lib.Dec.{T, ltb, ltb→lt}
 use lib.ListN.{getD}
 use Rattle.field.specs.Field.{xtime, inverse}
-use Rattle.field.specs.Bytes.{tabled, table}
+use Rattle.lookup.specs.Tables.{tabled, table}
 use Rattle.field.specs.Laws.{_∷≡_}
-use Rattle.field.specs.Every.{run, below, same, listed, entry}
+use Rattle.lookup.specs.Every.{run, below, same, listed, entry}
 
 abbrev pub inverses : List ℕ
 inverses =

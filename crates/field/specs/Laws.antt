@@ -10,7 +10,8 @@ use lib.Dec.{lit<}
 use lib.ListN.{length, getD, take, drop, set, length-append}
 use lib.Seq.{take-suc-set}
 use Rattle.field.specs.Field.{_⊕_}
-use Rattle.field.specs.Bytes.{Bytes, Sized, Block, tabled, sum, _⊞_, zeros}
+use Rattle.lookup.specs.Tables.{tabled}
+use Rattle.field.specs.Bytes.{Bytes, Sized, Block, sum, _⊞_, zeros}
 use Rattle.field.specs.Sums.{sum-assoc, sum-twice, sum-lt}
 
 infixr 5 _∷≡_

@@ -1,6 +1,5 @@
 pub mod Field
 pub mod Bytes
-pub mod Every
 pub mod Sums
 pub mod Laws
 pub mod Inverses

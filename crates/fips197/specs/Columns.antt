@@ -4,7 +4,7 @@ use mathlib.Core.Path.{_≡_, sym, ap, ap₂, _∙_}
 use Prim.Native.Nat.{ℕ, _<_}
 use lib.Bits.{xor-comm, xor-zero-r}
 use Rattle.field.specs.Field.{_⊕_, _•_, xtime}
-use Rattle.field.specs.Every.{agree}
+use Rattle.lookup.specs.Every.{agree}
 use Rattle.field.specs.Sums.{sum-assoc, sum-swap, sum-lt, product-sum, product-lt}
 use Rattle.fips197.specs.Steps.{mixed, unmixed}
 

@@ -6,7 +6,8 @@ use lib.Dec.{eqb}
 use lib.ListN.{getD, drop}
 use Rattle.tables.specs.Choice.{pick}
 use Rattle.field.specs.Field.{xtime}
-use Rattle.field.specs.Bytes.{tabled, sum}
+use Rattle.lookup.specs.Tables.{tabled}
+use Rattle.field.specs.Bytes.{sum}
 use Rattle.fips197.specs.Sbox.{sbox}
 use Rattle.fips197.specs.Steps.{at}
 

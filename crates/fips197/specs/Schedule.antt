@@ -7,7 +7,8 @@ use borrow.Author.Tests.{eq-eqb, ne-eqb}
 use lib.Dec.{lit<}
 use lib.ListN.{length, getD, drop}
 use Rattle.tables.specs.Choice.{picked, passed}
-use Rattle.field.specs.Bytes.{Bytes, Block, tabled, sum}
+use Rattle.lookup.specs.Tables.{tabled}
+use Rattle.field.specs.Bytes.{Bytes, Block, sum}
 use Rattle.field.specs.Sums.{xtime-lt}
 use Rattle.field.specs.Laws.{byte-at, append-bytes, tabled-sized, tabled-alike, sum-sized}
 use Rattle.fips197.specs.Sbox.{sbox}

@@ -4,7 +4,8 @@ use Prim.Native.Nat.{ℕ, _+_, _*_, _-_, _/_, _%_}
 use mathlib.Core.List.{List}
 use lib.ListN.{getD}
 use Rattle.field.specs.Field.{_⊕_, _•_}
-use Rattle.field.specs.Bytes.{tabled, _⊞_}
+use Rattle.lookup.specs.Tables.{tabled}
+use Rattle.field.specs.Bytes.{_⊞_}
 use Rattle.fips197.specs.Sbox.{sbox, invSbox}
 
 -- the byte in a row and a column, each modulo 4

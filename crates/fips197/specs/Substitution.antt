@@ -3,7 +3,7 @@ use mathlib.Core.Path.{_≡_, sym, ap, subst, _∙_}
 use Prim.Native.Nat.{ℕ, _<_}
 use lib.Dec.{ltb, ltb→lt}
 use lib.ListN.{getD}
-use Rattle.field.specs.Every.{below, agree}
+use Rattle.lookup.specs.Every.{below, agree}
 use Rattle.field.specs.Inverses.{inverses, inverse-at}
 use Rattle.fips197.specs.Sbox.{affine, unaffine, sbox, invSbox}
 

@@ -1,6 +1,6 @@
 // The key schedule of AES-128, FIPS 197 section 5.2: eleven round keys, a block each.
 ghost use mathlib.Core.Path.{_≡_};
-ghost use Rattle.field.specs.Bytes.{table};
+ghost use Rattle.lookup.specs.Tables.{table};
 ghost use Rattle.fips197.specs.Sbox.{sbox};
 ghost use Rattle.fips197.specs.Keys.{keyExpansion};
 ghost use Rattle.fips197.specs.Schedule.{nextKey};
@@ -14,10 +14,10 @@ fn next_key(t: &[u8; 256], k: [u8; 16], p: u8) -> [u8; 16]
     let k13 = k[13];
     let k14 = k[14];
     let k15 = k[15];
-    let w0 = k[0] ^ (sbox::look(t, k13) ^ p);
-    let w1 = k[1] ^ sbox::look(t, k14);
-    let w2 = k[2] ^ sbox::look(t, k15);
-    let w3 = k[3] ^ sbox::look(t, k12);
+    let w0 = k[0] ^ (lookup::look(t, k13) ^ p);
+    let w1 = k[1] ^ lookup::look(t, k14);
+    let w2 = k[2] ^ lookup::look(t, k15);
+    let w3 = k[3] ^ lookup::look(t, k12);
     let w4 = k[4] ^ w0;
     let w5 = k[5] ^ w1;
     let w6 = k[6] ^ w2;

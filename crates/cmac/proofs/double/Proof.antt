@@ -7,7 +7,7 @@ use native.Mathlib.Omega.{arith}
 use lib.ListN.{length, getD, take, set, length-set}
 use lib.Seq.{take-all, take-suc-set}
 use Rattle.field.specs.Field.{_⊕_}
-use Rattle.field.specs.Bytes.{tabled}
+use Rattle.lookup.specs.Tables.{tabled}
 use Rattle.field.specs.Laws.{stored-next}
 use Rattle.cmac.specs.Cmac.{shifted, doubled}
 use Rattle.cmac.proofs.double.Statement.{statement}

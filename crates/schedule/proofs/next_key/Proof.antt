@@ -4,7 +4,7 @@ use mathlib.Core.List.{List, []}
 use Prim.Native.Nat.{ℕ}
 use lib.Bits.{xor-zero-r}
 use Rattle.field.specs.Field.{_⊕_}
-use Rattle.field.specs.Bytes.{tabled}
+use Rattle.lookup.specs.Tables.{tabled}
 use Rattle.field.specs.Laws.{_∷≡_}
 use Rattle.fips197.specs.Sbox.{sbox}
 use Rattle.fips197.specs.Keys.{joined}

@@ -5,7 +5,7 @@ use native.Mathlib.Nat.{mul-le-mul}
 use native.Mathlib.Omega.{arith}
 use lib.ListN.{length, getD, take, set, length-set}
 use lib.Seq.{take-all}
-use Rattle.field.specs.Bytes.{tabled, table}
+use Rattle.lookup.specs.Tables.{tabled, table}
 use Rattle.field.specs.Laws.{stored-next}
 use Rattle.aes.proofs.steps.substituted.Statement.{statement}
 use Rattle.aes.proofs.steps.substituted.Tie as tie
