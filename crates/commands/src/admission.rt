@@ -47,28 +47,51 @@ fn sent(opening: bool, d: &[u8]) -> u32
     wire::le3_at(d, 4)
 }
 
+// A row each, and the row of the command alone is asked.
 pub fn wrong_length(opening: bool, ins: u8, d: &[u8]) -> bool
     ensures { λ r. ⌜ r ≡ wrongLength opening ins (now (d .entry)) ⌝ }
 {
     let n = d.len();
-    let len = sent(opening, d);
-    let with_bytes = len as usize + 7;
-    let caps = wire::byte_at(d, 1);
-    let with_caps = caps as usize + 2;
-    ((ins == table::READ_DATA) & (n != 7))
-        | ((ins == table::WRITE_DATA) & (n != with_bytes))
-        | ((ins == table::GET_VALUE) & (n != 1))
-        | ((ins == table::CREDIT) & (n != 5))
-        | ((ins == table::DEBIT) & (n != 5))
-        | ((ins == table::LIMITED_CREDIT) & (n != 5))
-        | ((ins == table::READ_RECORDS) & (n != 7))
-        | ((ins == table::WRITE_RECORD) & (n != with_bytes))
-        | ((ins == table::CLEAR_RECORD_FILE) & (n != 1))
-        | ((ins == table::COMMIT_TRANSACTION) & (1 < n))
-        | ((ins == table::ABORT_TRANSACTION) & (0 < n))
-        | ((ins == table::GET_FILE_SETTINGS) & (n != 1))
-        | ((ins == table::AUTHENTICATE_FIRST) & ((n < 2) | (n != with_caps)))
-        | ((ins == table::AUTHENTICATE_SECOND) & (n != 32))
+    if ins == table::READ_DATA {
+        return n != 7;
+    }
+    if ins == table::WRITE_DATA {
+        return n != sent(opening, d) as usize + 7;
+    }
+    if ins == table::GET_VALUE {
+        return n != 1;
+    }
+    if ins == table::CREDIT {
+        return n != 5;
+    }
+    if ins == table::DEBIT {
+        return n != 5;
+    }
+    if ins == table::LIMITED_CREDIT {
+        return n != 5;
+    }
+    if ins == table::READ_RECORDS {
+        return n != 7;
+    }
+    if ins == table::WRITE_RECORD {
+        return n != sent(opening, d) as usize + 7;
+    }
+    if ins == table::CLEAR_RECORD_FILE {
+        return n != 1;
+    }
+    if ins == table::COMMIT_TRANSACTION {
+        return 1 < n;
+    }
+    if ins == table::ABORT_TRANSACTION {
+        return 0 < n;
+    }
+    if ins == table::GET_FILE_SETTINGS {
+        return n != 1;
+    }
+    if ins == table::AUTHENTICATE_FIRST {
+        return (n < 2) | (n != wire::byte_at(d, 1) as usize + 2);
+    }
+    (ins == table::AUTHENTICATE_SECOND) & (n != 32)
 }
 
 // Whether a command that is in MAC mode, if sealed says so, carries a MAC.
