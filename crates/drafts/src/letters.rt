@@ -2,11 +2,13 @@
 use super::Step;
 use super::parts;
 use held::Draft;
+use lines::LONGEST_FRAME;
 ghost use mathlib.Core.Path.{_≡_};
 ghost use mathlib.Core.Bool.{true};
 ghost use Prim.Native.Nat.{_*_, _≤_, _<_};
 ghost use lib.ListN.{length, getD};
 ghost use Rattle.wire.specs.Bytes.{part};
+ghost use Rattle.lines.specs.Frames.{longestLine};
 ghost use Rattle.drafts.specs.Drafts.{letteredBy, lettered, Writes};
 
 // A letter with n characters behind it, and the bytes b that they spell.
@@ -19,7 +21,7 @@ fn put_spelt(
     b: &[u8],
     text: &mut [u8],
 ) -> Step
-    requires { ⌜ (length (now line) ≤ 1024) × (1024 ≤ length (now text)) × (digits ≡ true → n ≡ 2 * length (now b)) ⌝ }
+    requires { ⌜ (length (now line) ≤ longestLine) × (longestLine ≤ length (now text)) × (digits ≡ true → n ≡ 2 * length (now b)) ⌝ }
     ensures { λ r. ⌜ Writes (letteredBy draft (now (line .entry)) letter n digits (now (b .entry))) (now (text .entry)) (now (text .exit)) r ⌝ }
 {
     if (letter == b'M') & digits {
@@ -42,10 +44,10 @@ fn put_spelt(
 
 // A line of a letter and the characters behind it.
 pub(crate) fn put_lettered(draft: Draft, line: &[u8], text: &mut [u8]) -> Step
-    requires { ⌜ (0 < length (now line)) × (length (now line) ≤ 1024) × (1024 ≤ length (now text)) ⌝ }
+    requires { ⌜ (0 < length (now line)) × (length (now line) ≤ longestLine) × (longestLine ≤ length (now text)) ⌝ }
     ensures { λ r. ⌜ Writes (lettered draft (now (line .entry)) (getD (now (line .entry)) 0 0) (part (now (line .entry)) 1 (length (now (line .entry))))) (now (text .entry)) (now (text .exit)) r ⌝ }
 {
-    let mut bytes = [0u8; 512];
+    let mut bytes = [0u8; LONGEST_FRAME];
     let n = line.len() - 1;
     let size = text::spell(&line[1..], &mut bytes);
     let digits = 2 * size == n;

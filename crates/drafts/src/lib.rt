@@ -3,9 +3,12 @@ mod letters;
 mod parts;
 
 use held::Draft;
+use lines::LONGEST_FRAME;
+use lines::LONGEST_LINE;
 ghost use mathlib.Core.List.{[]};
 ghost use Prim.Native.Nat.{_≤_, _<_};
 ghost use lib.ListN.{length};
+ghost use Rattle.lines.specs.Frames.{longestLine};
 ghost use Rattle.lines.specs.Lines.{linesAfter, went, Goes};
 ghost use Rattle.drafts.specs.Drafts.{drafted, Writes};
 
@@ -24,17 +27,17 @@ pub struct Went {
 
 // What a line writes, over the front of text.
 fn write_line(draft: Draft, line: &[u8], text: &mut [u8]) -> Step
-    requires { ⌜ 1024 ≤ length (now text) ⌝ }
+    requires { ⌜ longestLine ≤ length (now text) ⌝ }
     ensures { λ r. ⌜ Writes (drafted draft (now (line .entry))) (now (text .entry)) (now (text .exit)) r ⌝ }
 {
     let n = line.len();
-    if 1024 < n {
+    if LONGEST_LINE < n {
         return parts::put_unread(draft, text);
     }
     if n == 0 {
         return parts::put_same(held::over(draft), line, text);
     }
-    let mut bytes = [0u8; 512];
+    let mut bytes = [0u8; LONGEST_FRAME];
     let size = text::spell(line, &mut bytes);
     if 2 * size == n {
         return parts::put_same(held::sent(draft, &bytes[0..size]), line, text);
@@ -46,7 +49,7 @@ fn write_line(draft: Draft, line: &[u8], text: &mut [u8]) -> Step
 pub fn run(mut draft: Draft, text: &[u8], out: &mut [u8]) -> Went
     ensures { λ r. ⌜ Goes (went drafted draft (linesAfter [] (now (text .entry))) (length (now (out .entry)))) (now (out .entry)) (now (out .exit)) (r .draft) (r .read) (r .written) ⌝ }
 {
-    let mut line = [0u8; 1024];
+    let mut line = [0u8; LONGEST_LINE];
     let mut at = 0;
     let mut n = 0;
     while at < text.len() {

@@ -7,6 +7,7 @@ ghost use Prim.Native.Nat.{_+_, _≤_};
 ghost use lib.ListN.{length};
 ghost use Rattle.wire.specs.Bytes.{part, Shows};
 ghost use Rattle.text.specs.Hex.{inDigits};
+ghost use Rattle.lines.specs.Frames.{longestLine};
 ghost use Rattle.held.specs.Held.{noted};
 ghost use Rattle.drafts.specs.Drafts.{unchanged, unread, authenticated, maced, Writes};
 
@@ -55,7 +56,7 @@ pub(crate) fn put_same(draft: Draft, line: &[u8], text: &mut [u8]) -> Step
 
 // Two frames, a line each, but for the last LF.
 fn put_two(first: [u8; 8], second: [u8; 38], text: &mut [u8]) -> usize
-    requires { ⌜ 1024 ≤ length (now text) ⌝ }
+    requires { ⌜ longestLine ≤ length (now text) ⌝ }
     ensures { λ r. ⌜ Shows (inDigits first ++ 0x0A ∷ inDigits second) (now (text .entry)) (now (text .exit)) r ⌝ }
 {
     let n = text::put_digits(&first, text);
@@ -67,7 +68,7 @@ fn put_two(first: [u8; 8], second: [u8; 38], text: &mut [u8]) -> usize
 
 // Both parts of an authentication: b is key number, key, RndA.
 pub(crate) fn put_authenticated(draft: Draft, b: &[u8], text: &mut [u8]) -> Step
-    requires { ⌜ (length (now b) ≡ 33) × (1024 ≤ length (now text)) ⌝ }
+    requires { ⌜ (length (now b) ≡ 33) × (longestLine ≤ length (now text)) ⌝ }
     ensures { λ r. ⌜ Writes (authenticated draft (now (b .entry))) (now (text .entry)) (now (text .exit)) r ⌝ }
 {
     let k = sixteen(b, 1);
@@ -84,7 +85,7 @@ pub(crate) fn put_authenticated(draft: Draft, b: &[u8], text: &mut [u8]) -> Step
 
 // A frame with its MAC.
 pub(crate) fn put_maced(draft: Draft, frame: &[u8], text: &mut [u8]) -> Step
-    requires { ⌜ 1024 ≤ length (now text) ⌝ }
+    requires { ⌜ longestLine ≤ length (now text) ⌝ }
     ensures { λ r. ⌜ Writes (maced draft (now (frame .entry))) (now (text .entry)) (now (text .exit)) r ⌝ }
 {
     if !draft.held {

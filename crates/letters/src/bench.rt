@@ -15,6 +15,7 @@ ghost use lib.Dec.{eqb};
 ghost use lib.ListN.{length, getD};
 ghost use Rattle.card.specs.Events.{personalised, sessionChanged};
 ghost use Rattle.orders.specs.Order.{orderIn};
+ghost use Rattle.lines.specs.Frames.{longestLine};
 ghost use Rattle.told.specs.Told.{saidOf};
 ghost use Rattle.letters.specs.Letters.{counted, lent, inputsIn, handed, letteredBy, lettered};
 
@@ -137,7 +138,7 @@ fn say_spelt(desk: Desk, letter: u8, n: usize, digits: bool, b: &[u8]) -> Told
 
 // A letter and the characters behind it: but for a chain, no line has more than the longest order.
 pub(crate) fn say_lettered(desk: Desk, letter: u8, rest: &[u8]) -> Told
-    requires { ⌜ length (now rest) ≤ 1024 ⌝ }
+    requires { ⌜ length (now rest) ≤ longestLine ⌝ }
     ensures { λ r. ⌜ saidOf r ≡ lettered desk letter (now (rest .entry)) ⌝ }
 {
     if (letter == b'C') | (letter == b'D') {

@@ -3,6 +3,7 @@ mod bench;
 mod chain;
 
 use desk::Desk;
+use lines::LONGEST_LINE;
 use notices::Notice;
 use told::Told;
 ghost use mathlib.Core.Path.{_≡_};
@@ -29,7 +30,7 @@ pub fn say(desk: Desk, line: &[u8]) -> Told
     ensures { λ r. ⌜ saidOf r ≡ otherSaid desk (now (line .entry)) ⌝ }
 {
     let n = line.len();
-    if 1024 < n {
+    if LONGEST_LINE < n {
         return Told {
             desk,
             notice: Notice::Unread,

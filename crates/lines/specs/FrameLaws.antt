@@ -15,7 +15,7 @@ use Rattle.wire.specs.Laws.{laid-none, shows-front}
 use Rattle.text.specs.Hex.{digitOf, allDigits, isHex, spelt, leading}
 use Rattle.text.specs.Laws.{leading-most, leading-part, leading-stop, length-spelt}
 use Rattle.lines.specs.Lines.{lineLength}
-use Rattle.lines.specs.Frames.{isFrame, frameIn, isChained, tried}
+use Rattle.lines.specs.Frames.{longestFrame, longestLine, isFrame, frameIn, isChained, tried}
 use Rattle.lines.specs.Laws.{Lines, line-ends, length-most, length-stop}
 
 end-no-digit : 16 ≤ digitOf 0x0A
@@ -37,14 +37,14 @@ digits-length (c ∷ cs) y h =
     let d = and-yes (ltb (digitOf c) 16) (allDigits cs) h in
     passed _ _ (ne-eqb c 0x0A (not-end c (d .0))) ∙ ap suc (digits-length cs y (d .1))
 
-frame-is : (l : List ℕ) → isFrame l ≡ true → (0 < length l) × (length l ≤ 1024) × (isHex l ≡ true)
+frame-is : (l : List ℕ) → isFrame l ≡ true → (0 < length l) × (length l ≤ longestLine) × (isHex l ≡ true)
 unfolding isFrame
 frame-is l e =
-    let a = and-yes (ltb 0 (length l) && leb (length l) 1024) (isHex l) e in
-    let b = and-yes (ltb 0 (length l)) (leb (length l) 1024) (a .0) in
+    let a = and-yes (ltb 0 (length l) && leb (length l) longestLine) (isHex l) e in
+    let b = and-yes (ltb 0 (length l)) (leb (length l) longestLine) (a .0) in
     (ltb-true _ _ (b .0), leb-true _ _ (b .1), a .1)
 
-is-frame : (l : List ℕ) → 0 < length l → length l ≤ 1024 → isHex l ≡ true → isFrame l ≡ true
+is-frame : (l : List ℕ) → 0 < length l → length l ≤ longestLine → isHex l ≡ true → isFrame l ≡ true
 unfolding isFrame
 is-frame l h k e = and-both _ _ (and-both _ _ (lt-ltb _ _ h) (le-leb _ _ k)) e
 
@@ -96,32 +96,32 @@ frame-chained s e = frame-odd s (eqb-true _ _ (and-yes (eqb (getD s 0 0) 0x43 ||
 -- nothing is spelt of it, nor past the end
 pub tried-chained : (s buf : List ℕ) → isChained s ≡ true → buf ≡ laid buf 0 (tried s)
 unfolding tried
-tried-chained s buf e = laid-none buf ∙ ap (laid buf 0) (sym (picked [] (take 512 (leading s)) e))
+tried-chained s buf e = laid-none buf ∙ ap (laid buf 0) (sym (picked [] (take longestFrame (leading s)) e))
 
 pub tried-past : (t buf : List ℕ) (at : ℕ) → length t ≤ at → buf ≡ laid buf 0 (tried (drop at t))
 unfolding tried isChained leading pick
 tried-past t buf at h = rw (drop-of-length-le t {i = at} h) (laid-none buf)
 
--- of the digits at the front of s, at most 512 bytes were spelt
-module _ (s frame after : List ℕ) (size : ℕ) (f : length frame ≡ 512) (w : Shows (take (length frame) (leading s)) frame after size) where
-  size-is : size ≡ length (take 512 (leading s))
+-- of the digits at the front of s, as many as a frame has were spelt
+module _ (s frame after : List ℕ) (size : ℕ) (f : length frame ≡ longestFrame) (w : Shows (take (length frame) (leading s)) frame after size) where
+  size-is : size ≡ length (take longestFrame (leading s))
   size-is = w .1 ∙ ap (λ n. length (take n (leading s))) f
 
-  pub size-most : (size ≤ 512) × (2 * size ≤ length s)
-  size-most = let n = size-is ∙ length-take 512 (leading s) in let m = leading-most s in (omega arith, omega arith)
+  pub size-most : (size ≤ longestFrame) × (2 * size ≤ length s)
+  size-most = let n = size-is ∙ length-take longestFrame (leading s) in let m = leading-most s in (omega arith, omega arith)
 
-  bytes : part after 0 size ≡ take 512 (leading s)
+  bytes : part after 0 size ≡ take longestFrame (leading s)
   bytes = ap (λ n. take n after) (sub-zero size) ∙ (shows-front _ frame after size w ∙ ap (λ n. take n (leading s)) f)
 
   pub tried-all : false ≡ isChained s → after ≡ laid frame 0 (tried s)
   unfolding tried
-  tried-all n = w .0 ∙ ap (laid frame 0) (ap (λ n. take n (leading s)) f ∙ sym (passed [] (take 512 (leading s)) (sym n)))
+  tried-all n = w .0 ∙ ap (laid frame 0) (ap (λ n. take n (leading s)) f ∙ sym (passed [] (take longestFrame (leading s)) (sym n)))
 
   -- LF behind them
   pub frame-there : 0 < size → getD s (2 * size) 0 ≡ 0x0A → (size ≡ length (frameIn s)) × (part after 0 size ≡ frameIn s)
   unfolding frameIn
   frame-there some g =
-      let n = size-is ∙ length-take 512 (leading s) in
+      let n = size-is ∙ length-take longestFrame (leading s) in
       let few : size ≤ length (leading s) = omega arith in
       let p = leading-part s size few in
       let c = split-at s (2 * size) g in
@@ -129,8 +129,8 @@ module _ (s frame after : List ℕ) (size : ℕ) (f : length frame ≡ 512) (w :
       let e : lineLength s ≡ 2 * size = ap lineLength (c .1) ∙ (digits-length (take (2 * size) s) (drop (suc (2 * size)) s) (hex-even _ (p .0) .1) ∙ omega (arith, size-most .1)) in
       let q : (ltb (lineLength s) (length s) && isFrame (take (lineLength s) s)) ≡ true =
       rw e (and-both _ _ (lt-ltb _ _ (c .0)) (is-frame _ (omega arith) (omega (arith, size-most .0)) (p .0))) in
-      let t : take size (leading s) ≡ take 512 (leading s) = ap (λ n. take n (leading s)) size-is ∙ take-taken 512 (leading s) in
-      let r : pick (ltb (lineLength s) (length s) && isFrame (take (lineLength s) s)) (spelt (take (lineLength s) s)) [] ≡ take 512 (leading s) =
+      let t : take size (leading s) ≡ take longestFrame (leading s) = ap (λ n. take n (leading s)) size-is ∙ take-taken longestFrame (leading s) in
+      let r : pick (ltb (lineLength s) (length s) && isFrame (take (lineLength s) s)) (spelt (take (lineLength s) s)) [] ≡ take longestFrame (leading s) =
       picked _ _ q ∙ (ap (λ i. spelt (take i s)) e ∙ (p .1 ∙ t)) in
       (size-is ∙ ap length (sym r), bytes ∙ sym r)
     where
@@ -154,7 +154,7 @@ module _ (s frame after : List ℕ) (size : ℕ) (f : length frame ≡ 512) (w :
           let g = length-stop s h in
           let c = split-at s (lineLength s) g in
           let m = ap leading (c .1) ∙ leading-stop l 0x0A (drop (suc (lineLength s)) s) end-no-digit (p .2) in
-          let n = size-is ∙ (ap (λ x. length (take 512 x)) m ∙ length-take 512 (spelt l)) in
+          let n = size-is ∙ (ap (λ x. length (take longestFrame x)) m ∙ length-take longestFrame (spelt l)) in
           let z = length-spelt l in
           let i = length-take (lineLength s) s in
           let v = hex-even l (p .2) .0 in
@@ -166,7 +166,7 @@ module _ (s frame after : List ℕ) (size : ℕ) (f : length frame ≡ 512) (w :
 
 -- the line from place at on is a frame of r bytes
 abbrev pub Frame : List ℕ → ℕ → ℕ → Type 0
-Frame t at r = Lines t at (at + 2 * r) × (at + 2 * r < length t) × (isFrame (part t at (at + 2 * r)) ≡ true) × (spelt (part t at (at + 2 * r)) ≡ frameIn (drop at t)) × (r ≤ 512)
+Frame t at r = Lines t at (at + 2 * r) × (at + 2 * r < length t) × (isFrame (part t at (at + 2 * r)) ≡ true) × (spelt (part t at (at + 2 * r)) ≡ frameIn (drop at t)) × (r ≤ longestFrame)
 
 module _ (t : List ℕ) (at r : ℕ) (h : at ≤ length t) (q : r ≡ length (frameIn (drop at t))) where
   abbrev first : List ℕ

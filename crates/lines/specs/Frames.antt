@@ -1,18 +1,22 @@
 -- A line of digits, which is a frame, at the front of a text.
 use mathlib.Core.Bool.{Bool, _&&_, _||_}
 use mathlib.Core.List.{List, []}
-use Prim.Native.Nat.{ℕ, _%_}
+use Prim.Native.Nat.{ℕ, _*_, _%_}
 use lib.Dec.{eqb, leb, ltb}
 use lib.ListN.{length, take, getD}
 use Rattle.tables.specs.Choice.{pick}
 use Rattle.text.specs.Hex.{isHex, spelt, leading}
 use Rattle.lines.specs.Lines.{lineLength}
 
+-- the most bytes of a frame
+abbrev pub longestFrame : ℕ
+longestFrame = 512
+
 -- the most characters of a line that is read
 abbrev pub longestLine : ℕ
-longestLine = 1024
+longestLine = 2 * longestFrame
 
--- digits and nothing else, two for each byte: some, and at most 1,024
+-- digits and nothing else, two for each byte: some, and as many as a line has
 unfoldable pub isFrame : List ℕ → Bool
 isFrame line = ltb 0 (length line) && leb (length line) longestLine && isHex line
 
@@ -24,6 +28,6 @@ frameIn s = pick (ltb (lineLength s) (length s) && isFrame (take (lineLength s) 
 unfoldable pub isChained : List ℕ → Bool
 isChained s = (eqb (getD s 0 0) 0x43 || eqb (getD s 0 0) 0x44) && eqb (lineLength s % 2) 1
 
--- the bytes that a look for a frame spells, found or not: those of the leading pairs of digits, at most 512
+-- the bytes that a look for a frame spells, found or not: those of the leading pairs of digits, as many as a frame has
 unfoldable pub tried : List ℕ → List ℕ
-tried s = pick (isChained s) [] (take 512 (leading s))
+tried s = pick (isChained s) [] (take longestFrame (leading s))

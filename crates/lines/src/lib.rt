@@ -10,6 +10,11 @@ ghost use Rattle.lines.specs.Lines.{lineLength};
 ghost use Rattle.lines.specs.Frames.{frameIn, isChained, tried};
 ghost use Rattle.lines.specs.Laws.{Nears};
 
+// The most bytes of a frame, and the most characters of a line that is read.
+pub const LONGEST_FRAME: usize = 512;
+
+pub const LONGEST_LINE: usize = 2 * LONGEST_FRAME;
+
 // Whether none of the two characters from place i on is LF.
 fn two_more(text: &[u8], i: usize) -> bool
     requires { ⌜ i + 2 ≤ length (now text) ⌝ }
@@ -64,7 +69,7 @@ fn is_chained(text: &[u8], at: usize) -> bool
 
 // Spells the frame that stands at place at, up to its LF, into the front of bytes, and answers the number of its bytes; 0 where
 // the line there is none.
-pub fn spell_frame(text: &[u8], at: usize, bytes: &mut [u8; 512]) -> usize
+pub fn spell_frame(text: &[u8], at: usize, bytes: &mut [u8; LONGEST_FRAME]) -> usize
     ensures { λ r. ⌜ (r ≡ length (frameIn (drop at (now (text .entry))))) × (part (now (bytes .exit)) 0 r ≡ frameIn (drop at (now (text .entry)))) × (now (bytes .exit) ≡ laid (now (bytes .entry)) 0 (tried (drop at (now (text .entry))))) ⌝ }
 {
     if text.len() <= at {

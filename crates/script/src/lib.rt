@@ -1,6 +1,8 @@
 // Scripts: lines of text that play a card, each answered by a line.
 use card::Reply;
 use desk::Desk;
+use desk::MOST_ROOM;
+use lines::LONGEST_FRAME;
 use told::Told;
 ghost use mathlib.Core.List.{[], _∷_, _++_};
 ghost use Prim.Native.Nat.{_-_};
@@ -31,7 +33,7 @@ fn put_told(told: Told, at: usize, out: &mut [u8]) -> usize
 }
 
 // Room for every answer to a command: two digits a byte of the largest reply buffer, and LF.
-const MOST_ANSWER: usize = 2 * desk::MOST_ROOM + 1;
+const MOST_ANSWER: usize = 2 * MOST_ROOM + 1;
 
 // Plays the whole lines of a text, as far as their answers fit out. The card of the run is the last reply's: a card is long, and
 // its way from a reply back to the desk would be one more copy of it in each turn. A desk that a command may have to leave as it
@@ -39,8 +41,8 @@ const MOST_ANSWER: usize = 2 * desk::MOST_ROOM + 1;
 pub fn run(mut desk: Desk, text: &[u8], out: &mut [u8]) -> Went
     ensures { λ r. ⌜ Goes (went lineSaid desk (linesAfter [] (now (text .entry))) (length (now (out .entry)))) (now (out .entry)) (now (out .exit)) (r .desk) (r .read) (r .written) ⌝ }
 {
-    let mut frame = [0u8; 512];
-    let mut reply = [0u8; 512];
+    let mut frame = [0u8; LONGEST_FRAME];
+    let mut reply = [0u8; MOST_ROOM];
     let mut at = 0;
     let mut n = 0;
     let first = desk.card;

@@ -23,16 +23,16 @@ use Rattle.card.specs.declared.Reply.{Reply}
 use Rattle.card.specs.View.{broken}
 use Rattle.card.specs.Outcome.{Outcome, replyOf, Answered, bench}
 use Rattle.card.specs.Events.{Played, refused, laidInto, benchRefusal, benched, opening, openingPlayed, chainOpened, delivered, bytesPlayed, bytesSent}
-use Rattle.desk.specs.Room.{lentRoom}
+use Rattle.desk.specs.Room.{mostRoom, lentRoom}
 use Rattle.desk.specs.Laws.{lent-most}
 
 -- ---- a reply read back from the part of the buffer that was lent; f is the outcome by the length of that part
 
 -- the reply r is that of the outcome o, and its bytes lie at the front of a buffer
 abbrev pub Plays : Outcome → List ℕ → Reply → Type 0
-Plays o after r = (r ≡ replyOf o) × (take (length (o .out)) after ≡ o .out) × (length (o .out) ≤ 512)
+Plays o after r = (r ≡ replyOf o) × (take (length (o .out)) after ≡ o .out) × (length (o .out) ≤ mostRoom)
 
-plays-part : (f : ℕ → Outcome) (reply after : List ℕ) (room : ℕ) (r : Reply) → room ≤ 512 → 512 ≤ length reply
+plays-part : (f : ℕ → Outcome) (reply after : List ℕ) (room : ℕ) (r : Reply) → room ≤ mostRoom → mostRoom ≤ length reply
     → length after ≡ length (part reply 0 room) → Answered (f (length (part reply 0 room))) (part reply 0 room) after r
     → Plays (f room) (after ++ drop (room - 0) reply) r
 plays-part f reply after room r h k l a =
@@ -43,14 +43,14 @@ plays-part f reply after room r h k l a =
     let t : take (length (o .out)) after ≡ o .out = rw (b .1) (front-laid (part reply 0 room) (o .out)) in
     (b .0, take-append-le (length (o .out)) after (drop (room - 0) reply) (omega arith) ∙ t, omega arith)
 
-pub plays-lent : (f : ℕ → Outcome) (reply after : List ℕ) (m room : ℕ) (r : Reply) → room ≡ lentRoom m → 512 ≤ length reply
+pub plays-lent : (f : ℕ → Outcome) (reply after : List ℕ) (m room : ℕ) (r : Reply) → room ≡ lentRoom m → mostRoom ≤ length reply
     → length after ≡ length (part reply 0 room) → Answered (f (length (part reply 0 room))) (part reply 0 room) after r
     → Plays (f (lentRoom m)) (after ++ drop (room - 0) reply) r
 plays-lent f reply after m room r e k l a =
     subst (λ (n : ℕ). Plays (f n) (after ++ drop (room - 0) reply) r) e (plays-part f reply after room r (omega (arith, lent-most m)) k l a)
 
 -- the bytes of a reply where it lies
-pub reply-bytes : (o : Outcome) (after : List ℕ) (r : Reply) → Plays o after r → (part after 0 (r .len) ≡ o .out) × (r .len ≤ 512)
+pub reply-bytes : (o : Outcome) (after : List ℕ) (r : Reply) → Plays o after r → (part after 0 (r .len) ≡ o .out) × (r .len ≤ mostRoom)
 unfolding replyOf
 reply-bytes o after r p =
     let n : r .len ≡ length (o .out) = ap (λ (x : Reply). x .len) (p .0) in
