@@ -1,8 +1,7 @@
 -- A line of a script that is no command: what it does, and the line that answers it.
 use Prim.Native.Nat.{ℕ, _+_, _*_}
-use mathlib.Core.Bool.{Bool, _&&_, _||_}
 use mathlib.Core.List.{List, [], _∷_}
-use lib.Dec.{eqb, leb, ltb}
+use lib.Dec.{eqb, ltb}
 use lib.ListN.{length, getD}
 use Rattle.tables.specs.Choice.{pick}
 use Rattle.wire.specs.Bytes.{part}
@@ -15,6 +14,9 @@ use Rattle.decimal.specs.Decimal.{decimal}
 use Rattle.answers.specs.Answers.{numbered, refusalText}
 use Rattle.books.specs.Books.{booksText}
 use Rattle.orders.specs.Order.{orderIn}
+use Rattle.kinds.specs.declared.Kind.{Kind}
+use Rattle.kinds.specs.declared.Kind.the-variants.{Order, NoSession, Session, Room, HandedIn, Opening, FileBytes, Books, Count, Unread}
+use Rattle.kinds.specs.Kinds.{kindOf}
 use Rattle.lines.specs.Lines.{Said}
 use Rattle.lines.specs.Frames.{longestLine}
 use Rattle.desk.specs.declared.Desk.{Desk}
@@ -59,30 +61,22 @@ storedTold k = record { next = k; out = decimal (k .stored) }
 
 -- ---- a line
 
--- the digits of the longest order
-abbrev pub longest : ℕ
-longest = 218
+-- a line of this kind, and the bytes that its digits spell
+unfoldable pub letteredBy : Desk → Kind → List ℕ → Said Desk
+letteredBy k Order b = counted k (personalised (orderIn b .settings) (orderIn b .keys) (orderIn b .value))
+letteredBy k NoSession b = counted k (sessionChanged (k .card) Nobody)
+letteredBy k Session b = counted k (sessionChanged (k .card) (Key (getD b 0 0)))
+letteredBy k Room b = lent k (256 * getD b 0 0 + getD b 1 0)
+letteredBy k HandedIn b = handed k (inputsIn b)
+letteredBy k Opening b = replied k (openedOn k b)
+letteredBy k FileBytes b = replied k (sentOn k b)
+letteredBy k Books b = bookKept k
+letteredBy k Count b = storedTold k
+letteredBy k Unread b = unread k
 
--- the digits of an order: up to the switches, up to the modes, or with the numbers of the files behind them
-abbrev pub isOrder : ℕ → Bool
-isOrder n = eqb n 46 || eqb n 208 || eqb n longest
-
--- a letter with n characters behind it, which are digits or not, and the bytes that they spell
-unfoldable pub letteredBy : Desk → ℕ → ℕ → Bool → List ℕ → Said Desk
-letteredBy k letter n digits b =
-    pick (eqb letter 0x50 && isOrder n && digits) (counted k (personalised (orderIn b .settings) (orderIn b .keys) (orderIn b .value)))
-    (pick (eqb letter 0x53 && eqb n 0) (counted k (sessionChanged (k .card) Nobody))
-    (pick (eqb letter 0x53 && eqb n 2 && digits) (counted k (sessionChanged (k .card) (Key (getD b 0 0))))
-    (pick (eqb letter 0x52 && eqb n 4 && digits) (lent k (256 * getD b 0 0 + getD b 1 0))
-    (pick (eqb letter 0x4E && eqb n 40 && digits) (handed k (inputsIn b))
-    (pick (eqb letter 0x43 && leb 2 n && digits) (replied k (openedOn k b))
-    (pick (eqb letter 0x44 && digits) (replied k (sentOn k b))
-    (pick (eqb letter 0x42 && eqb n 0) (bookKept k)
-    (pick (eqb letter 0x4C && eqb n 0) (storedTold k)
-    (unread k)))))))))
-
+-- a letter and the characters behind it
 unfoldable pub lettered : Desk → ℕ → List ℕ → Said Desk
-lettered k letter rest = letteredBy k letter (length rest) (isHex rest) (pick (isHex rest) (spelt rest) [])
+lettered k letter rest = letteredBy k (kindOf letter (length rest) (isHex rest)) (pick (isHex rest) (spelt rest) [])
 
 -- a line that is too long; none: a power-up; else a letter's line on the bench
 unfoldable pub otherSaid : Desk → List ℕ → Said Desk

@@ -1,26 +1,23 @@
 // The lines that begin with a letter, on the bench alone.
-use super::chain;
 use access::Session;
 use card::Card;
 use channel::Inputs;
 use desk::Desk;
 use desk::MOST_ROOM;
+use kinds::Kind;
+use lines::LONGEST_FRAME;
 use notices::Notice;
 use orders::Order;
 use told::Told;
 ghost use mathlib.Core.Path.{_≡_};
-ghost use mathlib.Core.Bool.{true, false, _||_};
 ghost use Prim.Native.Nat.{_+_, _*_, _≤_};
-ghost use lib.Dec.{eqb};
 ghost use lib.ListN.{length, getD};
 ghost use Rattle.card.specs.Events.{personalised, sessionChanged};
 ghost use Rattle.orders.specs.Order.{orderIn};
+ghost use Rattle.kinds.specs.declared.Kind.the-variants.{HandedIn};
 ghost use Rattle.lines.specs.Frames.{longestLine};
 ghost use Rattle.told.specs.Told.{saidOf};
 ghost use Rattle.letters.specs.Letters.{counted, lent, inputsIn, handed, letteredBy, lettered};
-
-// The digits of the longest order.
-const LONGEST: usize = 218;
 
 // P: personalise.
 fn personalise(mut desk: Desk, b: &[u8]) -> Told
@@ -97,61 +94,45 @@ fn hand_in(mut desk: Desk, b: &[u8]) -> Told
     }
 }
 
-// A letter other than C and D, with n characters behind it, and the bytes b that they spell.
-fn say_spelt(desk: Desk, letter: u8, n: usize, digits: bool, b: &[u8]) -> Told
-    requires { ⌜ ((eqb letter 0x43 || eqb letter 0x44) ≡ false) × (digits ≡ true → n ≡ 2 * length (now b)) ⌝ }
-    ensures { λ r. ⌜ saidOf r ≡ letteredBy desk letter n digits (now (b .entry)) ⌝ }
+// What a line of this kind does, with the bytes b that its digits spell.
+fn say_kind(desk: Desk, kind: Kind, b: &[u8]) -> Told
+    requires { ⌜ (kind ≡ HandedIn → length (now b) ≡ 20) ⌝ }
+    ensures { λ r. ⌜ saidOf r ≡ letteredBy desk kind (now (b .entry)) ⌝ }
 {
-    if (letter == b'P') & ((n == 46) | (n == 208) | (n == LONGEST)) & digits {
-        return personalise(desk, b);
-    }
-    if (letter == b'S') & (n == 0) {
-        return change_session(desk, Session::Nobody);
-    }
-    if (letter == b'S') & (n == 2) & digits {
-        return change_session(desk, Session::Key(wire::byte_at(b, 0)));
-    }
-    if (letter == b'R') & (n == 4) & digits {
-        return lend(desk, length_in(b));
-    }
-    if (letter == b'N') & (n == 40) & digits {
-        return hand_in(desk, b);
-    }
-    if (letter == b'B') & (n == 0) {
-        return Told {
+    match kind {
+        Kind::Order => personalise(desk, b),
+        Kind::NoSession => change_session(desk, Session::Nobody),
+        Kind::Session => change_session(desk, Session::Key(wire::byte_at(b, 0))),
+        Kind::Room => lend(desk, length_in(b)),
+        Kind::HandedIn => hand_in(desk, b),
+        Kind::Opening => told::play(desk, true, b),
+        Kind::FileBytes => told::play(desk, false, b),
+        Kind::Books => Told {
             desk,
             notice: Notice::Books,
-        };
-    }
-    if (letter == b'L') & (n == 0) {
-        let stored = desk.stored;
-        return Told {
+        },
+        Kind::Count => {
+            let stored = desk.stored;
+            Told {
+                desk,
+                notice: Notice::Count(stored),
+            }
+        }
+        Kind::Unread => Told {
             desk,
-            notice: Notice::Count(stored),
-        };
-    }
-    Told {
-        desk,
-        notice: Notice::Unread,
+            notice: Notice::Unread,
+        },
     }
 }
 
-// A letter and the characters behind it: but for a chain, no line has more than the longest order.
+// A letter and the characters behind it.
 pub(crate) fn say_lettered(desk: Desk, letter: u8, rest: &[u8]) -> Told
     requires { ⌜ length (now rest) ≤ longestLine ⌝ }
     ensures { λ r. ⌜ saidOf r ≡ lettered desk letter (now (rest .entry)) ⌝ }
 {
-    if (letter == b'C') | (letter == b'D') {
-        return chain::say_chained(desk, letter, rest);
-    }
-    if LONGEST < rest.len() {
-        return Told {
-            desk,
-            notice: Notice::Unread,
-        };
-    }
-    let mut bytes = [0u8; LONGEST / 2];
+    let mut bytes = [0u8; LONGEST_FRAME];
     let n = text::spell(rest, &mut bytes);
     let digits = 2 * n == rest.len();
-    say_spelt(desk, letter, rest.len(), digits, &bytes[0..n])
+    let kind = Kind::of_line(letter, rest.len(), digits);
+    say_kind(desk, kind, &bytes[0..n])
 }

@@ -1,6 +1,5 @@
 // A line that is no command: what it does to a desk, and its answer.
 mod bench;
-mod chain;
 
 use desk::Desk;
 use lines::LONGEST_LINE;
