@@ -102,7 +102,7 @@ pub tried-past : (t buf : List ℕ) (at : ℕ) → length t ≤ at → buf ≡ l
 unfolding tried isChained leading pick
 tried-past t buf at h = rw (drop-of-length-le t {i = at} h) (laid-none buf)
 
--- of the digits at the front of s, as many as a frame has were spelt
+-- of the digits at the front of s, no more than a frame has were spelt
 module _ (s frame after : List ℕ) (size : ℕ) (f : length frame ≡ longestFrame) (w : Shows (take (length frame) (leading s)) frame after size) where
   size-is : size ≡ length (take longestFrame (leading s))
   size-is = w .1 ∙ ap (λ n. length (take n (leading s))) f

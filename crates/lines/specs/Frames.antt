@@ -16,7 +16,7 @@ longestFrame = 512
 abbrev pub longestLine : ℕ
 longestLine = 2 * longestFrame
 
--- digits and nothing else, two for each byte: some, and as many as a line has
+-- digits and nothing else, two for each byte: some, and no more than a line has
 unfoldable pub isFrame : List ℕ → Bool
 isFrame line = ltb 0 (length line) && leb (length line) longestLine && isHex line
 
@@ -28,6 +28,6 @@ frameIn s = pick (ltb (lineLength s) (length s) && isFrame (take (lineLength s) 
 unfoldable pub isChained : List ℕ → Bool
 isChained s = (eqb (getD s 0 0) 0x43 || eqb (getD s 0 0) 0x44) && eqb (lineLength s % 2) 1
 
--- the bytes that a look for a frame spells, found or not: those of the leading pairs of digits, as many as a frame has
+-- the bytes that a look for a frame spells, found or not: those of the leading pairs of digits, no more than a frame has
 unfoldable pub tried : List ℕ → List ℕ
 tried s = pick (isChained s) [] (take longestFrame (leading s))

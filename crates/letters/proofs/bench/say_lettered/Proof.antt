@@ -1,5 +1,6 @@
 use Rattle.lines.specs.Laws.{spelt-there}
-use Rattle.kinds.specs.Laws.{handed-in-long}
+use Rattle.kinds.specs.declared.Kind.the-variants.{HandedIn}
+use Rattle.kinds.specs.Laws.{Known, known}
 use Rattle.letters.proofs.Steps.{lettered-by}
 use Rattle.letters.specs.Letters.{letteredBy}
 use Rattle.text.specs.Hex.{leading}
@@ -7,12 +8,13 @@ use Rattle.text.specs.Laws.{leading-most}
 use Rattle.wire.specs.Bytes.{part}
 use Rattle.wire.specs.Laws.{length-part}
 use borrow.Author.Tests.{eqb-true}
+use lib.Dec.{eqb}
 use lib.ListN.{length, replicate}
 use Prim.Native.Nat.{ℕ, _*_, _≤_}
 use denote.Ref.{now}
 use native.Mathlib.Omega.{arith}
 use mathlib.Core.List.{List}
-use mathlib.Core.Path.{_≡_, sym, ap, _∙_}
+use mathlib.Core.Path.{_≡_, sym, ap, subst, _∙_}
 use borrow.Author.Needs.{needs}
 use Rattle.letters.proofs.bench.say_lettered.Statement.{statement}
 use Rattle.letters.proofs.bench.say_lettered.Tie as tie
@@ -53,9 +55,11 @@ part-say-kind-end : tie.Need-part-say-kind-end
 part-say-kind-end c = omega (arith, there (c .before .before .before) .2)
 
 say-kind-requires : tie.Need-say-kind-requires
+unfolding Known
 say-kind-requires c κs e =
     let k = c .before .before .before .before in
-    let h = handed-in-long _ _ _ (sym (c .before .before .of-line .ensures) ∙ e) in
+    let digits = eqb (2 * k .spell .result) (length (rest k)) in
+    let h : Known (length (rest k)) digits HandedIn = subst (Known (length (rest k)) digits) (sym (c .before .before .of-line .ensures) ∙ e) (known (start k .args .letter) (length (rest k)) digits) in
     omega (arith, h .0, eqb-true (2 * k .spell .result) (length (rest k)) (h .1), length-part (k .spell .last .1 .0) 0 (k .spell .result) (there k .2))
 
 returns : tie.Need-returns
