@@ -1,15 +1,17 @@
 // Access rights, the session, and the access decision.
+#![tactic(auto)]
+
 ghost use Rattle.std.specs.Prelude.{◌≡◌};
 ghost use Rattle.access.specs.Rights.{read_of, write_of, read_write_of, change_of, nibble_sound, rights_sound, key_of, session_sound, sealed, granting, access_of};
 
-#[derive(Drop)]
+#[derive(Clone, Copy)]
 pub enum Session {
     Nobody,
     Key(u8),
 }
 
 // The access decision's answers; a free condition and the session's key both granting counts as the key.
-#[derive(Drop)]
+#[derive(Clone, Copy)]
 pub enum Access {
     Never,
     NotGranted,

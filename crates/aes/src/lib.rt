@@ -1,4 +1,6 @@
 // AES-128 after FIPS 197, both directions. A block is an array by value, and the round keys are an array of eleven.
+#![tactic(auto)]
+
 mod steps;
 
 ghost use Rattle.std.specs.Prelude.{◌≡◌};

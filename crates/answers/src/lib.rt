@@ -1,4 +1,6 @@
 // The characters of an answer in lent slices.
+#![tactic(auto)]
+
 ghost use Rattle.std.specs.Prelude.{◌≡◌, ◌-◌, ltb, length};
 ghost use Rattle.wire.specs.Bytes.{Shows};
 ghost use Rattle.text.specs.Shown.{in_room, Adds};

@@ -1,4 +1,6 @@
 // AuthenticateEV2First on the card: what each part leaves of the channel, and the data of its reply.
+#![tactic(auto)]
+
 ghost use Rattle.std.specs.Prelude.{◌≡◌};
 ghost use Rattle.authentication.specs.Authentication.{begun, first_shown};
 ghost use Rattle.authentication.specs.Guarded.{opened_in, second_in};

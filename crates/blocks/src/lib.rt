@@ -1,4 +1,6 @@
 // A block of input: of a line that has not ended yet, what is kept for the next block.
+#![tactic(auto)]
+
 ghost use Rattle.std.specs.Prelude.{◌≡◌, ◌-◌, ◌≤◌, min, length, take, drop};
 ghost use Rattle.wire.specs.Bytes.{laid, Shows};
 ghost use Rattle.blocks.specs.Rest.{rest_of};

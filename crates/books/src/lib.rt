@@ -1,4 +1,6 @@
 // The books of a card in characters, in lent slices: eight fields with single spaces.
+#![tactic(auto)]
+
 ghost use Rattle.std.specs.Prelude.{[], ◌∷◌, ◌++◌, ◌+◌, ◌≤◌, length};
 ghost use Rattle.text.specs.Shown.{Adds};
 ghost use Rattle.decimal.specs.Decimal.{decimal, signed_decimal};

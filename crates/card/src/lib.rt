@@ -1,4 +1,6 @@
 // The card: personalisation, session change and power-up, and what the other events share.
+#![tactic(auto)]
+
 mod delivery;
 mod exchange;
 mod issue;
@@ -20,7 +22,7 @@ use purse::Purse;
 use roles::Role;
 use settings::Settings;
 
-#[derive(Drop)]
+#[derive(Clone, Copy)]
 pub struct Card {
     pub settings: Settings,
     pub keys: Keys,
@@ -32,7 +34,7 @@ pub struct Card {
 
 // What an event answers: the card, the bench refusal's number or 0, the slot bytes of the log that it stored, and the length of
 // the reply.
-#[derive(Drop)]
+#[derive(Clone, Copy)]
 pub struct Reply {
     pub card: Card,
     pub refusal: u8,

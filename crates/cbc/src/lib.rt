@@ -1,4 +1,6 @@
 // CBC with AES-128 from a block of zeros, without padding, over one block and over two.
+#![tactic(auto)]
+
 ghost use Rattle.std.specs.Prelude.{◌≡◌, ◌++◌, take, drop};
 ghost use Rattle.cbc.specs.Cbc.{encrypted, decrypted};
 

@@ -1,4 +1,6 @@
 // A write that comes in several frames: what its opening announced, and how much of it is still to come.
+#![tactic(auto)]
+
 ghost use Rattle.std.specs.Prelude.{◌≡◌};
 ghost use Rattle.chains.specs.Chain.{unchained, announced, next_place, shortened, wrong_bytes, chain_sound};
 
@@ -6,7 +8,7 @@ use roles::Role;
 
 // The file, the place of the first byte, the length that was announced, and how many bytes of it are still to come. A chain is
 // open where some are; without one it names no file, and all figures are 0.
-#[derive(Drop)]
+#[derive(Clone, Copy)]
 pub struct Chain {
     pub file: Role,
     pub place: u32,

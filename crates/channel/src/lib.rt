@@ -1,4 +1,6 @@
 // Between terminal and card: how far a session has come, and what both sides then know.
+#![tactic(auto)]
+
 ghost use Rattle.std.specs.Prelude.{◌≡◌};
 ghost use Rattle.channel.specs.Named.{acts};
 ghost use Rattle.channel.specs.Channel.{stage_of, acting_of, named, stage_sound, is_waiting, stage_key, counter_of, counted_up, bare, counted, chained, advanced};
@@ -8,7 +10,7 @@ use chains::Chain;
 
 // No session; one of the bench, with its key; a first part of AuthenticateEV2First that waits for its second, with its key;
 // a real session, with its key and command counter.
-#[derive(Drop)]
+#[derive(Clone, Copy)]
 pub enum Stage {
     Closed,
     Bench(u8),
@@ -19,7 +21,7 @@ pub enum Stage {
 // The stage, and its bytes: RndB while a first part waits, the session MAC key in a real session; the transaction
 // identifier in both; PCDcap2 while a first part waits. Bytes that a stage does not need are zero. Beside them the chain of
 // file frames that is open.
-#[derive(Drop)]
+#[derive(Clone, Copy)]
 pub struct Channel {
     pub stage: Stage,
     pub secret: [u8; 16],
@@ -29,7 +31,7 @@ pub struct Channel {
 }
 
 // What the bench hands in with an event: the card's random number and transaction identifier.
-#[derive(Drop)]
+#[derive(Clone, Copy)]
 pub struct Inputs {
     pub random: [u8; 16],
     pub ti: [u8; 4],

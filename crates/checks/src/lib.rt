@@ -1,4 +1,6 @@
 // The order of checks: the first reason that applies names the status.
+#![tactic(auto)]
+
 ghost use Rattle.std.specs.Prelude.{◌≡◌};
 ghost use Rattle.rows.specs.State.{core_of};
 ghost use Rattle.rows.specs.Rows.{bytes_status};
@@ -45,7 +47,7 @@ pub const NOTHING_PENDING: u16 = 0x910C;
 
 // What the order of checks leaves: the status, and for an accepted command whether it carries a MAC and the role of the file that
 // it names.
-#[derive(Drop)]
+#[derive(Clone, Copy)]
 pub struct Checked {
     pub status: u16,
     pub maced: bool,

@@ -1,11 +1,13 @@
 // CMAC of NIST SP 800-38B with AES-128, and its truncation. A message is taken byte by byte, so that it may come in pieces.
+#![tactic(auto)]
+
 ghost use Rattle.std.specs.Prelude.{◌≡◌, ◌++◌, ◌/◌};
 ghost use Rattle.field.specs.Field.{only_if};
 ghost use Rattle.cmac.specs.Cmac.{doubled, subkey1, subkey2, cmac, truncated};
 ghost use Rattle.cmac.specs.Fed.{fed, closed};
 
 // The chain's block with the bytes of the present part added to it, and the number of these.
-#[derive(Drop)]
+#[derive(Clone, Copy)]
 struct Held {
     block: [u8; 16],
     held: usize,
@@ -33,7 +35,7 @@ fn double(l: [u8; 16]) -> [u8; 16]
 }
 
 // The two subkeys, for whoever compares them with published figures.
-#[derive(Drop)]
+#[derive(Clone, Copy)]
 pub struct Subkeys {
     pub first: [u8; 16],
     pub second: [u8; 16],

@@ -1,4 +1,6 @@
 // The command table, and which kind of file suits a command.
+#![tactic(auto)]
+
 pub mod table;
 
 ghost use Rattle.std.specs.Prelude.{◌≡◌};
@@ -8,7 +10,7 @@ ghost use Rattle.columns.specs.Row.{row_of};
 use roles::Role;
 
 // A command's row of the command table.
-#[derive(Drop)]
+#[derive(Clone, Copy)]
 pub struct Row {
     // It acts on a file; it names a file; it ends the transaction and names none.
     pub file: bool,

@@ -1,4 +1,6 @@
 // Places 5 to 13 of the order of checks.
+#![tactic(auto)]
+
 mod admission;
 
 ghost use Rattle.std.specs.Prelude.{◌≡◌};
@@ -14,7 +16,7 @@ use settings::Settings;
 
 // Which of the places apply, in their order, and what an accepted command takes on: whether it carries a MAC, and the role of the
 // file that it names.
-#[derive(Drop)]
+#[derive(Clone, Copy)]
 pub struct Places {
     pub command: bool,
     pub waits: bool,

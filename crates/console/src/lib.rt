@@ -1,4 +1,6 @@
 // A desk on standard input and output: input is read in blocks, and all whole lines of a block are answered before the next read.
+#![tactic(auto)]
+
 use desk::Desk;
 use input::Block;
 use libc::STDOUT_FILENO;

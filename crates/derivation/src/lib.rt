@@ -1,4 +1,6 @@
 // The session MAC key that both sides of AuthenticateEV2First make of their key and their random numbers.
+#![tactic(auto)]
+
 ghost use Rattle.std.specs.Prelude.{◌≡◌, take};
 ghost use Rattle.wire.specs.Bytes.{part};
 ghost use Rattle.derivation.specs.Derivation.{xored, session_vector, mac_key};

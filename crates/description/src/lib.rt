@@ -1,4 +1,6 @@
 // What GetFileSettings shows of a file: its kind, option byte, rights, and what its kind has.
+#![tactic(auto)]
+
 ghost use Rattle.std.specs.Prelude.{◌≡◌, ◌+◌, ◌≤◌, length};
 ghost use Rattle.std.specs.Int.{w32};
 ghost use Rattle.std.proofs.Common.{of_z};

@@ -1,4 +1,6 @@
 // A desk: a card, and how lines are played on it.
+#![tactic(auto)]
+
 ghost use Rattle.std.specs.Prelude.{◌≡◌};
 ghost use Rattle.desk.specs.Room.{lent_room};
 ghost use Rattle.desk.specs.Program.{program_card, program_desk};
@@ -11,7 +13,7 @@ use settings::Settings;
 
 // A card on the desk, what the bench hands in with its events, the length of the reply buffer lent to its commands, the slot bytes
 // of the log that its last event stored, and whether lettered lines are taken.
-#[derive(Drop)]
+#[derive(Clone, Copy)]
 pub struct Desk {
     pub card: Card,
     pub inputs: Inputs,

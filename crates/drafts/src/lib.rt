@@ -1,4 +1,6 @@
 // Drafts: a script with commands that lack their MAC, and authentications named by key and RndA, made into a script for the bench.
+#![tactic(auto)]
+
 mod letters;
 mod parts;
 
@@ -11,14 +13,14 @@ use held::Draft;
 use lines::{LONGEST_FRAME, LONGEST_LINE};
 
 // What is held after a line, and the number of characters that it writes.
-#[derive(Drop)]
+#[derive(Clone, Copy)]
 struct Step {
     draft: Draft,
     len: usize,
 }
 
 // How far a draft was read: what is held, the characters read, and the characters written.
-#[derive(Drop)]
+#[derive(Clone, Copy)]
 pub struct Went {
     pub draft: Draft,
     pub read: usize,

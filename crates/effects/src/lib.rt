@@ -1,4 +1,6 @@
 // What a command does to each part of a card. Each function answers for every command and data field.
+#![tactic(auto)]
+
 ghost use Rattle.std.specs.Prelude.{false, ◌≡◌, eqb};
 ghost use Rattle.columns.specs.Table.{commit_transaction};
 ghost use Rattle.logfile.specs.View.{view, put, put_stored};

@@ -1,4 +1,6 @@
 // The bench for programs in other languages: one function over lent slices.
+#![tactic(auto)]
+
 ghost use Rattle.std.specs.Prelude.{◌≡◌, true, [], length};
 ghost use Rattle.wire.specs.Bytes.{Shows};
 ghost use Rattle.desk.specs.Program.{program_desk};

@@ -1,4 +1,6 @@
 // The field of 256 elements and lists of its elements, which are bytes: definitions and laws in specs/, and the sum of two blocks.
+#![tactic(auto)]
+
 ghost use Rattle.std.specs.Prelude.{◌≡◌};
 ghost use Rattle.field.specs.Bytes.{◌⊞◌};
 

@@ -1,5 +1,7 @@
 // Published figures of the terminal's side: an AuthenticateEV2First with a key of zeros, and a command in MAC mode. Each is
 // made from its inputs alone and printed in digits.
+#![tactic(auto)]
+
 use libc::STDOUT_FILENO;
 
 fn block(digits: &[u8]) -> [u8; 16] {

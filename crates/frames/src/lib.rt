@@ -1,4 +1,6 @@
 // The frame: where its parts lie, and places 1 to 4 of the order of checks.
+#![tactic(auto)]
+
 ghost use Rattle.std.specs.Prelude.{◌≡◌, ◌-◌, min, max};
 ghost use Rattle.frames.specs.Frame.{le_of, data_of, bytes_in};
 ghost use Rattle.frames.specs.Faults.{faults_of};
@@ -54,7 +56,7 @@ fn last(frame: &[u8]) -> u8
 }
 
 // Which of places 1 to 4 apply, in their order.
-#[derive(Drop)]
+#[derive(Clone, Copy)]
 pub struct Faults {
     pub size: bool,
     pub class: bool,

@@ -1,4 +1,6 @@
 // AuthenticateEV2First: what the card computes of its key, RndA, RndB, TI and PCDcap2.
+#![tactic(auto)]
+
 ghost use Rattle.std.specs.Prelude.{◌≡◌, ◌&&◌, eqb, length};
 ghost use Rattle.handshake.specs.Handshake.{rotated, caps_of, first_reply, fails};
 ghost use Rattle.handshake.specs.Guarded.{pair_of, brought_in, key_in, reply_in};

@@ -1,10 +1,12 @@
 // What the terminal holds between two lines of a draft.
+#![tactic(auto)]
+
 ghost use Rattle.std.specs.Prelude.{◌≡◌};
 ghost use Rattle.held.specs.Held.{begun, over, raised, counted, sent};
 
 // The card's random number and transaction identifier that the last N line handed in, and the session, if one is held, by its
 // MAC key, transaction identifier and command counter.
-#[derive(Drop)]
+#[derive(Clone, Copy)]
 pub struct Draft {
     pub random: [u8; 16],
     pub identifier: [u8; 4],

@@ -1,10 +1,12 @@
 // Standard input in blocks.
+#![tactic(auto)]
+
 ghost use Rattle.std.specs.Prelude.{◌≤◌, length};
 
 use libc::STDIN_FILENO;
 
 // How many characters stand at the front of a buffer, and whether there may be more input.
-#[derive(Drop)]
+#[derive(Clone, Copy)]
 pub struct Block {
     pub end: usize,
     pub more: bool,

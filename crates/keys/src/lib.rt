@@ -1,8 +1,10 @@
 // The card's five keys, of sixteen bytes each.
+#![tactic(auto)]
+
 ghost use Rattle.std.specs.Prelude.{◌≡◌};
 ghost use Rattle.keys.specs.Keys.{zeros, key_at};
 
-#[derive(Drop)]
+#[derive(Clone, Copy)]
 pub struct Keys {
     pub k0: [u8; 16],
     pub k1: [u8; 16],

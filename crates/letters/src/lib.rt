@@ -1,4 +1,6 @@
 // A line that is no command: what it does to a desk, and its answer.
+#![tactic(auto)]
+
 mod bench;
 
 ghost use Rattle.std.specs.Prelude.{◌≡◌};

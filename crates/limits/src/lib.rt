@@ -1,9 +1,11 @@
 // The limits of the value file: what they hold, and what they hold after a rise or a fall.
+#![tactic(auto)]
+
 ghost use Rattle.std.specs.Prelude.{◌≡◌, pos, ◌+ℤ◌, ◌-ℤ◌};
 ghost use Rattle.whole.specs.Parts.{above};
 ghost use Rattle.limits.specs.Limits.{crossed, within};
 
-#[derive(Drop)]
+#[derive(Clone, Copy)]
 pub struct Limits {
     pub lower: i32,
     pub upper: i32,

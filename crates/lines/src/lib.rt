@@ -1,4 +1,6 @@
 // Lines of a text in lent slices.
+#![tactic(auto)]
+
 ghost use Rattle.std.specs.Prelude.{◌≡◌, [], ◌∷◌, ◌++◌, true, ◌+◌, ◌-◌, ◌≤◌, length, drop};
 ghost use Rattle.wire.specs.Bytes.{part, laid};
 ghost use Rattle.text.specs.Shown.{in_room, Adds};

@@ -1,11 +1,13 @@
 // The cyclic log: a ring of four slots of 16 bytes, and what is pending on them.
+#![tactic(auto)]
+
 ghost use Rattle.std.specs.Prelude.{min, ◌<◌, [], ◌∷◌, ◌≡◌};
 ghost use Rattle.logfile.specs.Journal.{blank, fresh_or, pushed, resting, written, cleared, dropped};
 ghost use Rattle.wire.specs.Bytes.{laid_in};
 ghost use Rattle.logfile.specs.Ring.{newer};
 ghost use Rattle.logfile.specs.View.{view, put, committed, empty};
 
-#[derive(Drop)]
+#[derive(Clone, Copy)]
 pub struct Log {
     // Stored entries: count of them, the newest in slot place, each older one in the slot before, counted round.
     pub slots: [u8; Log::SLOTS],
@@ -18,7 +20,7 @@ pub struct Log {
 }
 
 // A log, and the number of slot bytes that were stored on the way to it.
-#[derive(Drop)]
+#[derive(Clone, Copy)]
 pub struct Stored {
     pub log: Log,
     pub stored: u8,

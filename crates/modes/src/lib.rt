@@ -1,4 +1,6 @@
 // Which file a data field names, which commands carry a MAC, and the data field without it.
+#![tactic(auto)]
+
 ghost use Rattle.std.specs.Prelude.{◌≡◌, ◌-◌};
 ghost use Rattle.tables.specs.Choice.{pick};
 ghost use Rattle.access.specs.Rights.{is_free_only};

@@ -1,4 +1,6 @@
 // The answer to a line that is no command, in lent slices.
+#![tactic(auto)]
+
 ghost use Rattle.std.specs.Prelude.{[], ◌∷◌, ◌++◌, ◌-◌, ◌≤◌, length};
 ghost use Rattle.wire.specs.Bytes.{Shows};
 ghost use Rattle.answers.specs.Answers.{refusal_text};
@@ -11,7 +13,7 @@ use logfile::Log;
 use purse::Purse;
 
 // `?`, `!` and a number, the same but nothing for 0, the two bytes of a status word in digits, a count, the books.
-#[derive(Drop)]
+#[derive(Clone, Copy)]
 pub enum Notice {
     Unread,
     Number(u8),

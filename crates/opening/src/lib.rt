@@ -1,4 +1,6 @@
 // The session that the terminal holds behind an authentication.
+#![tactic(auto)]
+
 ghost use Rattle.std.specs.Prelude.{◌≡◌};
 ghost use Rattle.opening.specs.Opening.{opened};
 

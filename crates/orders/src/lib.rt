@@ -1,6 +1,8 @@
 // A personalisation order in bytes. The files come in the order of Role: their rights, then lower limit, upper limit, starting
 // value, switches, keys 0 to 4, modes, and the files' numbers. Bytes past the end count as 0: an order that ends behind the
 // switches has zero keys and plain modes. One that ends before the numbers has the default ones.
+#![tactic(auto)]
+
 ghost use Rattle.std.specs.Prelude.{◌≡◌, ◌*◌};
 ghost use Rattle.orders.specs.Order.{le2, signed, limits_in, sixteen, keys_in, number_in, file_in, settings_in, order_in};
 
@@ -10,7 +12,7 @@ use roles::Role;
 use settings::{FileSettings, Settings};
 
 // The settings, the starting value and the keys that an order names.
-#[derive(Drop)]
+#[derive(Clone, Copy)]
 pub struct Order {
     pub settings: Settings,
     pub value: i32,

@@ -1,4 +1,6 @@
 // Places 10 to 13 of the order of checks, a test each: what an INS with its data field d asks for, against what the card holds.
+#![tactic(auto)]
+
 ghost use Rattle.std.specs.Prelude.{◌≡◌};
 ghost use Rattle.rows.specs.Rows.{switched_off, no_amount, no_key, bad_parameter, ranged, room_of, outside_amount, outside, long_read, nothing_pending};
 

@@ -1,11 +1,13 @@
 // The value file: a signed value between two limits, what is pending on it, and the re-booking allowance.
+#![tactic(auto)]
+
 ghost use Rattle.std.specs.Prelude.{◌≡◌};
 ghost use Rattle.purse.specs.Purse.{held_sum, resting, settled, dropped};
 ghost use Rattle.purse.specs.Guarded.{raise_in, credit_in, debit_in, rebook_in};
 
 use limits::Limits;
 
-#[derive(Drop)]
+#[derive(Clone, Copy)]
 pub struct Purse {
     // Committed figures.
     pub value: i32,

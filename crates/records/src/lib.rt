@@ -1,4 +1,6 @@
 // What a read of the log shows: committed entries, the oldest leading.
+#![tactic(auto)]
+
 ghost use Rattle.std.specs.Prelude.{◌+◌, ◌-◌, ◌<◌, ◌≤◌, ◌≡◌, eqb, length};
 ghost use Rattle.tables.specs.Choice.{pick};
 ghost use Rattle.wire.specs.Bytes.{laid, Shows};

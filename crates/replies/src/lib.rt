@@ -1,4 +1,6 @@
 // What the data of an accepted command's reply is.
+#![tactic(auto)]
+
 ghost use Rattle.std.specs.Prelude.{length};
 ghost use Rattle.wire.specs.Bytes.{Shows};
 ghost use Rattle.replies.specs.Guarded.{value_in, shown_in};

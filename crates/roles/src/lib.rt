@@ -1,9 +1,11 @@
 // The five files of a card by what they are for. Their numbers are the client's; sizes and kinds belong to the roles.
+#![tactic(auto)]
+
 ghost use Rattle.std.specs.Prelude.{◌≡◌};
 ghost use Rattle.roles.specs.Roles.{place_of, is_data, is_value, is_log, is_file, size_of, default_number};
 
 // The two long data files, the short one, the value file, the log; and what a number names that no file of the card has.
-#[derive(Drop)]
+#[derive(Clone, Copy)]
 pub enum Role {
     FirstLong,
     SecondLong,

@@ -1,1 +1,2 @@
 // The sixteen reasons for refusal: definitions and laws of them, with nothing to run.
+#![tactic(auto)]

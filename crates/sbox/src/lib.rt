@@ -1,4 +1,6 @@
 // The S-box and its inverse, as tables.
+#![tactic(auto)]
+
 mod figure14;
 mod figure7;
 

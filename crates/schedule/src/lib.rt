@@ -1,4 +1,6 @@
 // The key schedule of AES-128, FIPS 197 section 5.2: eleven round keys, a block each.
+#![tactic(auto)]
+
 ghost use Rattle.std.specs.Prelude.{◌≡◌};
 ghost use Rattle.lookup.specs.Tables.{table};
 ghost use Rattle.fips197.specs.Sbox.{sbox};

@@ -1,4 +1,6 @@
 // Scripts: lines of text that play a card, each answered by a line.
+#![tactic(auto)]
+
 ghost use Rattle.std.specs.Prelude.{[], ◌∷◌, ◌++◌, ◌-◌, length};
 ghost use Rattle.text.specs.Shown.{in_room, Adds};
 ghost use Rattle.lines.specs.Lines.{lines_after, went, Goes};
@@ -11,7 +13,7 @@ use lines::LONGEST_FRAME;
 use told::Told;
 
 // How far a script was played: the desk, the characters read, and the characters written.
-#[derive(Drop)]
+#[derive(Clone, Copy)]
 pub struct Went {
     pub desk: Desk,
     pub read: usize,

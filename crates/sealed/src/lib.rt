@@ -1,4 +1,6 @@
 // The terminal's side of MAC mode: a plain frame with its MAC put in.
+#![tactic(auto)]
+
 ghost use Rattle.std.specs.Prelude.{[], ◌∷◌, ◌++◌, ◌+◌, ◌≤◌, length, take};
 ghost use Rattle.wire.specs.Bytes.{Shows};
 ghost use Rattle.till.specs.Till.{sealed_in};

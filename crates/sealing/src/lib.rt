@@ -1,4 +1,6 @@
 // The MAC of a message under a session.
+#![tactic(auto)]
+
 ghost use Rattle.std.specs.Prelude.{◌≡◌};
 ghost use Rattle.sealing.specs.Sealing.{seal_of};
 

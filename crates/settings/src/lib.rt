@@ -1,4 +1,6 @@
 // What personalisation fixes, which file a number names, and what is granted.
+#![tactic(auto)]
+
 ghost use Rattle.std.specs.Prelude.{◌≡◌};
 ghost use Rattle.settings.specs.Settings.{unchosen, absent, alike, file_at, role_of, named_by, nothing, access_by, rights_broken, number_above, number_twice};
 
@@ -8,14 +10,14 @@ use limits::Limits;
 use roles::Role;
 
 // Of one file: its number, its rights, and whether it is in MAC mode; else it is plain.
-#[derive(Drop)]
+#[derive(Clone, Copy)]
 pub struct FileSettings {
     pub rights: u16,
     pub number: u8,
     pub maced: bool,
 }
 
-#[derive(Drop)]
+#[derive(Clone, Copy)]
 pub struct Settings {
     // The two long data files, the short one, the value file, the log.
     pub first: FileSettings,
@@ -30,7 +32,7 @@ pub struct Settings {
 }
 
 // What a number names: the role, and what is fixed of the file.
-#[derive(Drop)]
+#[derive(Clone, Copy)]
 pub struct Named {
     pub role: Role,
     pub file: FileSettings,

@@ -1,4 +1,6 @@
 // The standing rules, which every card keeps, and the bench refusal of an order that would break one.
+#![tactic(auto)]
+
 ghost use Rattle.std.specs.Prelude.{◌≡◌};
 ghost use Rattle.standing.specs.Rules.{unequal, broken_by, first_fault, order_refusal};
 ghost use Rattle.standing.specs.Parts.{value_broken, log_broken, chain_broken};

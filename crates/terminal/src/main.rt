@@ -1,5 +1,7 @@
 // The terminal: a draft on standard input, the script for the bench on standard output. Input is read in blocks, and all whole
 // lines of a block are written before the next read. The loop counts its turns down, from a number that no run uses up.
+#![tactic(auto)]
+
 use drafts::Went;
 use held::Draft;
 use input::Block;

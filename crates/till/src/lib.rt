@@ -1,4 +1,6 @@
 // The terminal's side: the frames of an authentication. A plain frame with its MAC put in is of `sealed`.
+#![tactic(auto)]
+
 ghost use Rattle.std.specs.Prelude.{◌≡◌, []};
 ghost use Rattle.till.specs.Till.{first_frame, second_part, second_frame};
 

@@ -1,4 +1,6 @@
 // What is told of a line, and a chain's lines on the card of a desk: the frame that opens it, and file bytes.
+#![tactic(auto)]
+
 ghost use Rattle.std.specs.Prelude.{◌≡◌, length};
 ghost use Rattle.tables.specs.Choice.{pick};
 ghost use Rattle.card.specs.Outcome.{Answered};
@@ -11,7 +13,7 @@ use desk::{Desk, MOST_ROOM};
 use notices::Notice;
 
 // A desk after a line, and the answer.
-#[derive(Drop)]
+#[derive(Clone, Copy)]
 pub struct Told {
     pub desk: Desk,
     pub notice: Notice,

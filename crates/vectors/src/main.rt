@@ -1,5 +1,7 @@
 // Published figures: FIPS 197, appendices A.1, B and C.1; RFC 4493, section 4; an AuthenticateEV2First and a command in MAC
 // mode. Each is made from its inputs alone and printed in digits.
+#![tactic(auto)]
+
 ghost use Rattle.std.specs.Prelude.{◌≤◌, length};
 
 use libc::STDOUT_FILENO;

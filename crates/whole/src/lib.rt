@@ -1,4 +1,6 @@
 // Signed numbers of 32 bits and their bits, which are the number modulo 2^32.
+#![tactic(auto)]
+
 ghost use Rattle.std.specs.Prelude.{◌≡◌};
 ghost use Rattle.std.specs.Int.{w32};
 ghost use Rattle.std.proofs.Common.{of_z, to_z};
