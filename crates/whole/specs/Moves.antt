@@ -17,7 +17,7 @@ pub widened : {p : ℤ} → SFits w32 p → SFits w64 (narrow p)
 widened f = rw (to_z-of_z f) (sfits_widen tt f)
 
 pub read_wide : {p : ℤ} → SFits w32 p → wide p ≡ p
-read_wide f = rw (to_z-of_z f) (to_z-of_z (sfits_widen tt f))
+read_wide f = rw (to_z-of_z f) (to_z-of_z {w = w64} (sfits_widen {w = w32} {w' = w64} (tt {0}) f))
 
 -- the sum fits 64 bits, and is p moved by z, where the machine reads z as m
 pub record Moved (p z m : ℤ) : Type 0 where

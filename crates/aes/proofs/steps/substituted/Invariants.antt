@@ -1,0 +1,16 @@
+use borrow.Author.Rules.{rules}
+use mathlib.Core.Path.{◌≡◌, refl, ap, ◌∙◌, sym}
+use Prim.Native.Nat.{ℕ, ◌+◌, ◌*◌, ◌%◌, ◌≤◌, ◌-◌}
+use native.Mathlib.Nat.{mul-le-mul}
+use native.Mathlib.Omega.{arith}
+use lib.ListN.{length, get_or, take, set, length-set}
+use lib.Seq.{take_all}
+use Rattle.lookup.specs.Tables.{tabled, table}
+use Rattle.field.specs.Laws.{stored_next}
+use Rattle.aes.proofs.steps.substituted.Given as goal
+
+abbrev pub invariant-loop-i : goal.invariant-loop-i
+invariant-loop-i l = (l.i ≤ 16) × (length l.r ≡ 16) × ((f : ℕ → ℕ) → l.t ≡ table f → take l.i l.r ≡ tabled l.i (λ j. f (get_or l.s (j * l.far % 16) 0)))
+
+abbrev pub decreases-loop-i : goal.decreases-loop-i
+decreases-loop-i l = 16 - l.i

@@ -1,0 +1,17 @@
+use Rattle.logfile.proofs.Settling.{dropped_log, pushed_log}
+use lib.ListN.{length}
+use mathlib.Core.Path.{◌≡◌, ◌∙◌}
+use borrow.Author.Rules.{rules}
+use Rattle.logfile.proofs.Log.push.Goals as goal
+use Rattle.logfile.proofs.Log.push.Goals.{Start}
+
+slots_length : (s : Start) → length s.args.self.slots ≡ 64
+slots_length s = search rules
+
+entry_length : (s : Start) → length s.args.self.entry ≡ 16
+entry_length s = search rules
+
+pub returns : goal.returns
+returns c =
+    let k = c.kept-kept in
+    c.drop_pending.ensures ∙ dropped_log _ ∙ pushed_log c.args.self k.result (slots_length (goal.at.returns c).Start) (entry_length (goal.at.returns c).Start) k.ensures c.next_place-place.result c.store.new.0 c.next_place-place.ensures c.store.ensures

@@ -1,0 +1,15 @@
+use Rattle.text.specs.Hex.{in_digits}
+use Rattle.text.proofs.Steps.{high_at, low_at, filled, filled_more, filled_laid}
+use Rattle.text.specs.Laws.{length_digits}
+use lib.ListN.{length, length-set}
+use Prim.Native.Nat.{◌+◌, ◌*◌, ◌-◌, ◌≤◌}
+use mathlib.Core.Path.{◌≡◌, refl, ◌∙◌}
+use native.Mathlib.Omega.{arith}
+use Rattle.text.proofs.digits_all.Given as goal
+
+-- the digits of the first i bytes are laid
+abbrev pub invariant-loop-i : goal.invariant-loop-i
+invariant-loop-i l = (l.i ≤ length l.bytes) × (length l.out ≡ length l.initial.out) × (l.out ≡ filled l.initial.out (in_digits l.bytes) (2 * l.i))
+
+abbrev pub decreases-loop-i : goal.decreases-loop-i
+decreases-loop-i l = length l.bytes - l.i

@@ -1,0 +1,7 @@
+use Rattle.wire.specs.Bytes.{word}
+use borrow.Author.Rules.{rules}
+use Rattle.wire.proofs.word_of.Goals as goal
+
+pub returns : goal.returns
+unfolding word
+returns c = search rules
