@@ -10,4 +10,4 @@ returns c =
     let a = c.args in
     let b = a.buf.now in
     let e = counted b a.read a.end c.between.ensures c.between-2.ensures c.lesser-there.ensures c.lesser-n.ensures in
-    ((c.move_down.ensures ∙ ap (laid b 0) (rest_counted b a.read a.end _ e), length_rest b a.read a.end _ e), omega arith)
+    record { shows = (c.move_down.ensures ∙ ap (laid b 0) (rest_counted b a.read a.end _ e), length_rest b a.read a.end _ e); upper_bound = omega arith }

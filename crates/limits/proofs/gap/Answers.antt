@@ -72,7 +72,7 @@ same_side c =
     (simp (to_z-of_z, c.ranges.low, c.ranges.high) at c.if-low-high.true)
 
 pub overflow_sub-result : goal.overflow_sub-result
-overflow_sub-result c = rw (to_z-of_z c.ranges.low, to_z-of_z c.ranges.high) (same_side (goal.at.overflow_sub-result c).Then-low-high).ranges
+overflow_sub-result c = rw (to_z-of_z c.ranges.low, to_z-of_z c.ranges.high) (same_side (goal.at.overflow_sub-result c).Then-low-high).fits
 
 pub overflow_cast-result : goal.overflow_cast-result
 overflow_cast-result c = let k = same_side (goal.at.overflow_cast-result c).Then-low-high in rw (to_z-of_z c.ranges.low, to_z-of_z c.ranges.high, to_z-of_z k.fits) k.cast
@@ -88,7 +88,7 @@ pub overflow_cast-result-2 : goal.overflow_cast-result-2
 overflow_cast-result-2 c = (both_sides (goal.at.overflow_cast-result-2 c).Else-low-high).down
 
 pub overflow_add-result : goal.overflow_add-result
-overflow_add-result c = (both_sides (goal.at.overflow_add-result c).Else-low-high).to-zero
+overflow_add-result c = (both_sides (goal.at.overflow_add-result c).Else-low-high).to_zero
 
 pub overflow_cast-result-3 : goal.overflow_cast-result-3
 overflow_cast-result-3 c = rw (to_z-of_z c.ranges.high) (both_sides (goal.at.overflow_cast-result-3 c).Else-low-high).up

@@ -10,14 +10,15 @@ use mathlib.Core.Logic.{⊎_elim}
 use mathlib.Core.Path.{◌≡◌, refl, sym, ap, ◌∙◌}
 use native.Mathlib.Omega.{arith}
 use Rattle.text.proofs.spell_by.Goals as goal
+use Rattle.text.proofs.spell_by.Goals.{then-out-most, else-out-most}
 
 pub loop-i-init : goal.loop-i-init
 loop-i-init c =
     let a = c.args in
-    ⊎_elim
-    (λ w. (omega arith, omega arith, sym (ap (λ n. take n (leading a.s.now)) w.1), omega arith, omega arith, refl, refl))
-    (λ w. (omega arith, omega arith, room_half a.s.now (length a.out.now) c.if-out-most.most (omega arith) (omega arith), omega arith, omega arith, refl, refl))
-    c.if-out-most.branch
+    elim c.if-out-most.branch [
+      then-out-most w ↦ (omega arith, omega arith, sym (ap (λ n. take n (leading a.s.now)) w.most-is), omega arith, omega arith, refl, refl)
+      | else-out-most w ↦ (omega arith, omega arith, room_half a.s.now (length a.out.now) c.if-out-most.most (omega arith) (omega arith), omega arith, omega arith, refl, refl)
+    ]
 
 pub shape_of-out-then-high-ge16 : goal.shape_of-out-then-high-ge16
 shape_of-out-then-high-ge16 c = c.loop-i.invariant.5

@@ -14,4 +14,4 @@ entry_length s = search rules
 pub returns : goal.returns
 returns c =
     let k = c.kept-kept in
-    c.drop_pending.ensures ∙ dropped_log _ ∙ pushed_log c.args.self k.result (slots_length (goal.at.returns c).Start) (entry_length (goal.at.returns c).Start) k.ensures c.next_place-place.result c.store.new.0 c.next_place-place.ensures c.store.ensures
+    c.drop_pending.ensures ∙ dropped_log _ ∙ pushed_log c.args.self k.result (slots_length (goal.at.returns c).Start) (entry_length (goal.at.returns c).Start) k.ensures c.next_place-place.result c.store.new.slots c.next_place-place.ensures c.store.ensures

@@ -7,4 +7,4 @@ returns c =
     let l = c.lay in
     let f = c.fresh-entry in
     let a = c.args in
-    written_log a.self a.off a.bytes.now f.result l.new.0 f.ensures l.ensures
+    written_log a.self a.off a.bytes.now f.result l.new.dst f.ensures l.ensures

@@ -1,0 +1,7 @@
+use Rattle.handshake.specs.Handshake.{first_reply}
+use borrow.Author.Rules.{rules}
+use Rattle.handshake.proofs.first_reply.Goals as goal
+
+pub returns : goal.returns
+unfolding first_reply
+returns c = c.encrypt_one.ensures
