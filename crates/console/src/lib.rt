@@ -3,14 +3,15 @@
 
 use desk::Desk;
 use input::Block;
-use libc::STDOUT_FILENO;
 use script::Went;
+use std::io;
 
 // Serves a desk until the input ends, in each turn as many lines as fit the buffer out. Both buffers are made once: to fill one
 // with zeros takes as long as many answers. The loop counts its turns down, from a number that no run uses up.
-pub fn serve(desk: Desk) {
-    let mut buf = io::large_buffer();
-    let mut out = io::large_buffer();
+pub fn serve<R: Input + Print>(rt: &R, desk: Desk) -> io::Result<()> {
+    let mut input = rt.reader();
+    let mut buf = [0; 65536];
+    let mut out = [0; 65536];
     let mut went = Went {
         desk,
         read: 0,
@@ -24,17 +25,18 @@ pub fn serve(desk: Desk) {
         let end = block.end;
         went = script::run(went.desk, &buf[at..end], &mut out);
         let written = went.written;
-        io::write_all(STDOUT_FILENO, &out[0..written]);
+        rt.write_all(&out[0..written])?;
         let read = went.read;
         if 0 < read {
             at += read;
             continue;
         }
         if !block.more {
-            return;
+            return Ok(());
         }
         let held = blocks::keep_rest(&mut buf, at, end);
-        block = Block::read(held, &mut buf);
+        block = Block::read(&mut input, held, &mut buf);
         at = 0;
     }
+    Ok(())
 }

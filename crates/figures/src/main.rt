@@ -2,7 +2,7 @@
 // made from its inputs alone and printed in digits.
 #![tactic(auto)]
 
-use libc::STDOUT_FILENO;
+use std::io;
 
 fn block(digits: &[u8]) -> [u8; 16] {
     let mut b = [0u8; 16];
@@ -11,21 +11,21 @@ fn block(digits: &[u8]) -> [u8; 16] {
 }
 
 // A line of at most 130 characters.
-fn show(bytes: &[u8]) {
+fn show<R: Print>(rt: &R, bytes: &[u8]) -> io::Result<()> {
     let mut text = [0u8; 130];
     let mut line = [0u8; 131];
     let n = text::put_digits(bytes, &mut text);
     if 130 < n {
-        return;
+        return Ok(());
     }
     let end = lines::put(&text[0..n], 0, &mut line);
     if 131 < end {
-        return;
+        return Ok(());
     }
-    io::write_all(STDOUT_FILENO, &line[0..end]);
+    rt.write_all(&line[0..end])
 }
 
-fn authentication() {
+fn authentication<R: Print>(rt: &R) -> io::Result<()> {
     let k = [0u8; 16];
     let a = block(b"13C5DB8A5930439FC3DEF9A4C675360F");
     let b = block(b"B9E2FC789B64BF237CCCAA20EC7E6E48");
@@ -33,12 +33,12 @@ fn authentication() {
     let part = till::second_part(k, a, b);
     let second = till::second_frame(part);
     let key = derivation::mac_key(k, a, b);
-    show(&first);
-    show(&second);
-    show(&key);
+    show(rt, &first)?;
+    show(rt, &second)?;
+    show(rt, &key)
 }
 
-fn mac_mode() {
+fn mac_mode<R: Print>(rt: &R) -> io::Result<()> {
     let key = block(b"8248134A386E86EB7FAF54A52E536CB6");
     let mut out = [0u8; 32];
     let n = sealed::seal_frame(
@@ -49,12 +49,12 @@ fn mac_mode() {
         &mut out,
     );
     if 32 < n {
-        return;
+        return Ok(());
     }
-    show(&out[0..n]);
+    show(rt, &out[0..n])
 }
 
-fn main() {
-    authentication();
-    mac_mode();
+fn main(rt: HostRuntime) -> io::Result<()> {
+    authentication(&rt)?;
+    mac_mode(&rt)
 }

@@ -3,7 +3,7 @@
 
 ghost use Rattle.std.specs.Prelude.{◌≤◌, length};
 
-use libc::STDIN_FILENO;
+use std::io::Read;
 
 // How many characters stand at the front of a buffer, and whether there may be more input.
 #[derive(Clone, Copy)]
@@ -13,8 +13,8 @@ pub struct Block {
 }
 
 impl Block {
-    // Reads a block behind the held characters. The last line may lack its LF, which it gets here.
-    pub fn read(held: usize, buf: &mut [u8]) -> Block
+    // Reads a block behind the held characters; a read that fails ends the input. The last line may lack its LF, which it gets here.
+    pub fn read<R: Read>(input: &mut R, held: usize, buf: &mut [u8]) -> Block
         ensures { result.end ≤ length buf.old }
     {
         if buf.len() <= held {
@@ -23,8 +23,10 @@ impl Block {
                 more: false,
             };
         }
-        let got = libc::read(STDIN_FILENO, &mut buf[held..]);
-        let n = io::count(got, &buf[held..]);
+        let n = match input.read(&mut buf[held..]) {
+            Ok(n) => n,
+            Err(_) => 0,
+        };
         if 0 < n {
             return Block {
                 end: held + n,

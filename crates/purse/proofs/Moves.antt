@@ -1,7 +1,6 @@
 -- A value moved by an amount: where the limit test passes, the sum of 64 bits fits 32 bits too.
-use borrow.Author.Tests.{not-true, not-false}
 use mathlib.Core.Path.{◌≡◌, ◌∙◌, sym}
-use mathlib.Core.Bool.{Bool, true, false, not}
+use mathlib.Core.Bool.{Bool, true, false}
 use Prim.Native.Nat.{ℕ}
 use lib.IntN.{ℤ, ◌+ℤ◌}
 use mir.Syntax.{w32, w64}
@@ -26,12 +25,12 @@ module _ (l : Limits) {p z m : ℤ} {r : Bool} (k : Moved p z m) (e : r ≡ with
   answer : r ≡ within l (p +ℤ z)
   answer = rw (to_z-of_z k.figure) at e
 
-  pub refused : not r ≡ true → within l (p +ℤ z) ≡ false
-  refused t = sym answer ∙ not-true r t
+  pub refused : r ≡ false → within l (p +ℤ z) ≡ false
+  refused t = sym answer ∙ t
 
-  pub landed : SFits w32 l.lower → SFits w32 l.upper → not r ≡ false → Landed l p z m
+  pub landed : SFits w32 l.lower → SFits w32 l.upper → r ≡ true → Landed l p z m
   landed fl fu t =
-      let h : within l (p +ℤ z) ≡ true = sym answer ∙ not-false r t in
+      let h : within l (p +ℤ z) ≡ true = sym answer ∙ t in
       let g = within_fits l (p +ℤ z) fl fu h in
       record { holds = h; sum = k; fits = rw k.to g; to = rw k.to (to_z-of_z g) }
 

@@ -5,11 +5,12 @@
 use drafts::Went;
 use held::Draft;
 use input::Block;
-use libc::STDOUT_FILENO;
+use std::io;
 
-fn main() {
-    let mut buf = io::large_buffer();
-    let mut out = io::large_buffer();
+fn main(rt: HostRuntime) -> io::Result<()> {
+    let mut input = rt.reader();
+    let mut buf = [0; 65536];
+    let mut out = [0; 65536];
     let mut went = Went {
         draft: Draft::begin(),
         read: 0,
@@ -23,17 +24,18 @@ fn main() {
         let end = block.end;
         went = drafts::run(went.draft, &buf[at..end], &mut out);
         let written = went.written;
-        io::write_all(STDOUT_FILENO, &out[0..written]);
+        rt.write_all(&out[0..written])?;
         let read = went.read;
         if 0 < read {
             at += read;
             continue;
         }
         if !block.more {
-            return;
+            return Ok(());
         }
         let held = blocks::keep_rest(&mut buf, at, end);
-        block = Block::read(held, &mut buf);
+        block = Block::read(&mut input, held, &mut buf);
         at = 0;
     }
+    Ok(())
 }

@@ -1,6 +1,8 @@
 // The transcript program: one frame a line in hexadecimal digits, an empty line a power-up.
 #![tactic(auto)]
 
-fn main() {
-    console::serve(desk::Desk::program(false));
+use std::io;
+
+fn main(rt: HostRuntime) -> io::Result<()> {
+    console::serve(&rt, desk::Desk::program(false))
 }

@@ -4,7 +4,7 @@
 
 ghost use Rattle.std.specs.Prelude.{◌≤◌, length};
 
-use libc::STDOUT_FILENO;
+use std::io;
 
 fn block(digits: &[u8]) -> [u8; 16] {
     let mut b = [0; 16];
@@ -18,138 +18,155 @@ fn two_blocks(digits: &[u8]) -> [u8; 32] {
     b
 }
 
-fn show_short(b: [u8; 8]) {
+fn show_short<R: Print>(rt: &R, b: [u8; 8]) -> io::Result<()> {
     let mut line = [b'\n'; 17];
     text::put_digits(&b, &mut line);
-    io::write_all(STDOUT_FILENO, &line);
+    rt.write_all(&line)
 }
 
-fn show(b: [u8; 16]) {
+fn show<R: Print>(rt: &R, b: [u8; 16]) -> io::Result<()> {
     let mut line = [b'\n'; 33];
     text::put_digits(&b, &mut line);
-    io::write_all(STDOUT_FILENO, &line);
+    rt.write_all(&line)
 }
 
-fn show_two(b: [u8; 32]) {
+fn show_two<R: Print>(rt: &R, b: [u8; 32]) -> io::Result<()> {
     let mut line = [b'\n'; 65];
     text::put_digits(&b, &mut line);
-    io::write_all(STDOUT_FILENO, &line);
+    rt.write_all(&line)
 }
 
-fn key_expansion() {
-    io::write_all(STDOUT_FILENO, b"FIPS 197 A.1, the round keys\n");
+fn key_expansion<R: Print>(rt: &R) -> io::Result<()> {
+    rt.write_all(b"FIPS 197 A.1, the round keys\n")?;
     let w = schedule::key_expansion(block(b"2B7E151628AED2A6ABF7158809CF4F3C"));
-    show(w[0]);
-    show(w[1]);
-    show(w[2]);
-    show(w[3]);
-    show(w[4]);
-    show(w[5]);
-    show(w[6]);
-    show(w[7]);
-    show(w[8]);
-    show(w[9]);
-    show(w[10]);
+    show(rt, w[0])?;
+    show(rt, w[1])?;
+    show(rt, w[2])?;
+    show(rt, w[3])?;
+    show(rt, w[4])?;
+    show(rt, w[5])?;
+    show(rt, w[6])?;
+    show(rt, w[7])?;
+    show(rt, w[8])?;
+    show(rt, w[9])?;
+    show(rt, w[10])
 }
 
-fn there_and_back(key: [u8; 16], plain: [u8; 16]) {
+fn there_and_back<R: Print>(rt: &R, key: [u8; 16], plain: [u8; 16]) -> io::Result<()> {
     let w = schedule::key_expansion(key);
     let c = aes::cipher(w, plain);
-    show(c);
-    show(aes::inv_cipher(w, c));
+    show(rt, c)?;
+    show(rt, aes::inv_cipher(w, c))
 }
 
-fn ciphers() {
-    io::write_all(STDOUT_FILENO, b"FIPS 197 B, encrypted and decrypted\n");
+fn ciphers<R: Print>(rt: &R) -> io::Result<()> {
+    rt.write_all(b"FIPS 197 B, encrypted and decrypted\n")?;
     there_and_back(
+        rt,
         block(b"2B7E151628AED2A6ABF7158809CF4F3C"),
         block(b"3243F6A8885A308D313198A2E0370734"),
-    );
-    io::write_all(STDOUT_FILENO, b"FIPS 197 C.1, encrypted and decrypted\n");
+    )?;
+    rt.write_all(b"FIPS 197 C.1, encrypted and decrypted\n")?;
     there_and_back(
+        rt,
         block(b"000102030405060708090A0B0C0D0E0F"),
         block(b"00112233445566778899AABBCCDDEEFF"),
-    );
+    )
 }
 
 // The MAC of the first bytes of m, in two pieces.
-fn show_mac(key: [u8; 16], m: &[u8], part: usize, end: usize)
+fn show_mac<R: Print>(rt: &R, key: [u8; 16], m: &[u8], part: usize, end: usize) -> io::Result<()>
     requires { (part ≤ end) × (end ≤ length m.now) }
 {
-    show(cmac::tag(key, &m[0..part], &m[part..end]));
+    show(rt, cmac::tag(key, &m[0..part], &m[part..end]))
 }
 
 // The messages are the same bytes, 0, 16, 40 and 64 of them, parted in other places.
-fn macs() {
+fn macs<R: Print>(rt: &R) -> io::Result<()> {
     let key = block(b"2B7E151628AED2A6ABF7158809CF4F3C");
     let mut m = [0; 64];
     text::spell(
         b"6BC1BEE22E409F96E93D7E117393172AAE2D8A571E03AC9C9EB76FAC45AF8E5130C81C46A35CE411E5FBC1191A0A52EFF69F2445DF4F9B17AD2B417BE66C3710",
         &mut m,
     );
-    io::write_all(STDOUT_FILENO, b"RFC 4493, K1 and K2\n");
+    rt.write_all(b"RFC 4493, K1 and K2\n")?;
     let s = cmac::Subkeys::of_key(key);
     let first = s.first;
     let second = s.second;
-    show(first);
-    show(second);
-    io::write_all(STDOUT_FILENO, b"RFC 4493, examples 1 to 4\n");
-    show_mac(key, &m, 0, 0);
-    show_mac(key, &m, 16, 16);
-    show_mac(key, &m, 7, 40);
-    show_mac(key, &m, 48, 64);
+    show(rt, first)?;
+    show(rt, second)?;
+    rt.write_all(b"RFC 4493, examples 1 to 4\n")?;
+    show_mac(rt, key, &m, 0, 0)?;
+    show_mac(rt, key, &m, 16, 16)?;
+    show_mac(rt, key, &m, 7, 40)?;
+    show_mac(rt, key, &m, 48, 64)
 }
 
-fn authentication() {
+fn authentication<R: Print>(rt: &R) -> io::Result<()> {
     let key = [0; 16];
-    io::write_all(
-        STDOUT_FILENO,
-        b"AuthenticateEV2First, RndB, the second part, the reply\n",
-    );
-    show(cbc::encrypt_one(key, block(b"B9E2FC789B64BF237CCCAA20EC7E6E48")));
-    show_two(cbc::encrypt_two(
-        key,
-        two_blocks(b"13C5DB8A5930439FC3DEF9A4C675360FE2FC789B64BF237CCCAA20EC7E6E48B9"),
-    ));
-    show_two(cbc::encrypt_two(
-        key,
-        two_blocks(b"9D00C4DFC5DB8A5930439FC3DEF9A4C675360F13000000000000000000000000"),
-    ));
-    io::write_all(STDOUT_FILENO, b"the same, decrypted\n");
-    show(cbc::decrypt_one(key, block(b"A04C124213C186F22399D33AC2A30215")));
-    show_two(cbc::decrypt_two(
-        key,
-        two_blocks(b"35C3E05A752E0144BAC0DE51C1F22C56B34408A23D8AEA266CAB947EA8E0118D"),
-    ));
-    show_two(cbc::decrypt_two(
-        key,
-        two_blocks(b"3FA64DB5446D1F34CD6EA311167F5E4985B89690C04A05F17FA7AB2F08120663"),
-    ));
-    io::write_all(STDOUT_FILENO, b"SesAuthMACKey\n");
+    rt.write_all(b"AuthenticateEV2First, RndB, the second part, the reply\n")?;
+    show(
+        rt,
+        cbc::encrypt_one(key, block(b"B9E2FC789B64BF237CCCAA20EC7E6E48")),
+    )?;
+    show_two(
+        rt,
+        cbc::encrypt_two(
+            key,
+            two_blocks(b"13C5DB8A5930439FC3DEF9A4C675360FE2FC789B64BF237CCCAA20EC7E6E48B9"),
+        ),
+    )?;
+    show_two(
+        rt,
+        cbc::encrypt_two(
+            key,
+            two_blocks(b"9D00C4DFC5DB8A5930439FC3DEF9A4C675360F13000000000000000000000000"),
+        ),
+    )?;
+    rt.write_all(b"the same, decrypted\n")?;
+    show(
+        rt,
+        cbc::decrypt_one(key, block(b"A04C124213C186F22399D33AC2A30215")),
+    )?;
+    show_two(
+        rt,
+        cbc::decrypt_two(
+            key,
+            two_blocks(b"35C3E05A752E0144BAC0DE51C1F22C56B34408A23D8AEA266CAB947EA8E0118D"),
+        ),
+    )?;
+    show_two(
+        rt,
+        cbc::decrypt_two(
+            key,
+            two_blocks(b"3FA64DB5446D1F34CD6EA311167F5E4985B89690C04A05F17FA7AB2F08120663"),
+        ),
+    )?;
+    rt.write_all(b"SesAuthMACKey\n")?;
     let vector = two_blocks(b"5AA50001008013C56268A548D8FBBF237CCCAA20EC7E6E48C3DEF9A4C675360F");
-    show_mac(key, &vector, 32, 32);
+    show_mac(rt, key, &vector, 32, 32)
 }
 
-fn mac_mode() {
+fn mac_mode<R: Print>(rt: &R) -> io::Result<()> {
     let key = block(b"8248134A386E86EB7FAF54A52E536CB6");
     let mut head = [0; 7];
     let mut rest = [0; 25];
-    io::write_all(STDOUT_FILENO, b"MAC mode, GetFileSettings and its reply\n");
+    rt.write_all(b"MAC mode, GetFileSettings and its reply\n")?;
     text::spell(b"F500007A21085E", &mut head);
     text::spell(b"02", &mut rest);
-    show_short(cmac::short_tag(key, &head, &rest[0..1]));
+    show_short(rt, cmac::short_tag(key, &head, &rest[0..1]))?;
     text::spell(b"0001007A21085E", &mut head);
     text::spell(
         b"0040EEEE000100D1FE001F00004400004400002000006A0000",
         &mut rest,
     );
-    show_short(cmac::short_tag(key, &head, &rest));
+    show_short(rt, cmac::short_tag(key, &head, &rest))
 }
 
-fn main() {
-    key_expansion();
-    ciphers();
-    macs();
-    authentication();
-    mac_mode();
+fn main(rt: HostRuntime) -> io::Result<()> {
+    key_expansion(&rt)?;
+    ciphers(&rt)?;
+    macs(&rt)?;
+    authentication(&rt)?;
+    mac_mode(&rt)
 }

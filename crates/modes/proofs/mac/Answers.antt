@@ -1,0 +1,6 @@
+use Rattle.modes.specs.Laws.{mac_part}
+use borrow.Author.Rules.{rules}
+use Rattle.modes.proofs.mac.Goals as goal
+
+pub returns : goal.returns
+returns c = mac_part c.args.x.now _ c.mac_start-a.ensures

@@ -1,0 +1,14 @@
+use Rattle.keys.specs.declared.Keys.{Keys}
+use mathlib.Core.List.{List}
+use Prim.Native.Nat.{ℕ}
+use Rattle.orders.specs.Order.{keys_in}
+use borrow.Author.Rules.{rules}
+use Rattle.orders.proofs.keys_in.Goals as goal
+
+abbrev keys_of : List ℕ → List ℕ → List ℕ → List ℕ → List ℕ → Keys
+keys_of a b c d e = record { k0 = a; k1 = b; k2 = c; k3 = d; k4 = e }
+
+pub returns : goal.returns
+unfolding keys_in
+returns c =
+    λ i. keys_of (c.sixteen_at.ensures i) (c.sixteen_at-2.ensures i) (c.sixteen_at-3.ensures i) (c.sixteen_at-4.ensures i) (c.sixteen_at-5.ensures i)
