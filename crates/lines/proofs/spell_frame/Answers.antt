@@ -32,14 +32,14 @@ module _ (k : After-spell-size) where
       let l = length-drop k.args.at text in
       sym (take_all (length text - k.args.at) from (omega arith))
 
-  shown : Shows (take (length k.args.bytes.now) (leading from)) k.args.bytes.now k.spell-size.new.bytes k.spell-size.result
+  shown : Shows (take (length k.args.bytes.now) (leading from)) k.args.bytes.now k.spell-size.new.out k.spell-size.result
   shown = rw behind k.spell-size.ensures
 
   most : (k.spell-size.result ≤ 512) × (2 * k.spell-size.result ≤ length from)
   most = size_most from k.args.bytes.now _ _ room shown
 
   -- all of them are laid
-  over : k.spell-size.new.bytes ≡ laid k.args.bytes.now 0 (tried from)
+  over : k.spell-size.new.out ≡ laid k.args.bytes.now 0 (tried from)
   over =
       tried_all from k.args.bytes.now _ _ room shown (sym k.if-is_chained.false ∙ k.is_chained.ensures)
 

@@ -1,0 +1,6 @@
+use Rattle.text.specs.Adds.{adds_room}
+use borrow.Author.Rules.{rules}
+use Rattle.books.proofs.add_char.Goals as goal
+
+pub returns : goal.returns
+returns c = adds_room _ _ _ c.requires c.lay.ensures
