@@ -1,0 +1,82 @@
+use Rattle.drafts.specs.Drafts.{drafted}
+use Rattle.lines.specs.Laws.{Ends, line_ends}
+use Rattle.wire.specs.Laws.{shows_fits, shows_there}
+use Rattle.lines.specs.Sofar.{Sofar, sofar_start, sofar_length, sofar_end, sofar_part, sofar_full, sofar_next, sofar_as}
+use Rattle.text.specs.Shown.{in_room, Adds}
+use Rattle.wire.specs.Bytes.{part}
+use borrow.Author.Rules.{rules}
+use lib.ListN.{length}
+use native.Mathlib.Omega.{arith}
+use Prim.Native.Nat.{ℕ, ◌-◌, ◌≤◌, ◌<◌}
+use mathlib.Core.List.{List, [], ◌∷◌, ◌++◌}
+use mathlib.Core.Path.{◌≡◌, subst, ◌∙◌}
+use Rattle.drafts.proofs.run.Goals as goal
+use Rattle.drafts.proofs.run.Goals.{After-line_end-e, After-put-put, After-write_line-step, Else-e-text}
+
+-- ---- what the places of a turn know
+-- the line goes up to the next LF
+ends : (c : After-line_end-e invariant-loop decreases-loop) → Ends c.args.text.now c.loop-at.at c.line_end-e.result
+ends c = line_ends c.args.text.now c.loop-at.at c.loop-at.invariant.1.place c.line_end-e.ensures
+
+inside : (c : Else-e-text invariant-loop decreases-loop) → c.line_end-e.result < length c.args.text.now
+inside c = omega (arith, c.if-e-text.false, (ends c).2)
+
+-- what it writes lies at the front of its buffer
+written : (c : After-write_line-step invariant-loop decreases-loop) → (c.write_line-step.result.len ≤ 1024) × (length c.write_line-step.new.1.1.0 ≡ 1024)
+written c =
+    let w = c.write_line-step in
+    let l = c.loop-at.invariant.0 in
+    let k = w.auto.1.1.0 in
+    (omega (arith, shows_fits _ _ _ _ w.ensures.1 k), k ∙ l)
+
+-- and was put behind what was written before
+put_line : (c : After-put-put invariant-loop decreases-loop) → let v = c.loop-at in
+    Adds (in_room (length v.out - v.n) ((drafted v.draft (part c.args.text.now v.at c.line_end-e.result)).out ++ 0x0A ∷ [])) v.out v.n c.put-put.new.1.1.0 c.put-put.result
+put_line c = let v = c.loop-at in
+    subst (λ (x : List ℕ). Adds (in_room (length v.out - v.n) (x ++ 0x0A ∷ [])) v.out v.n c.put-put.new.1.1.0 c.put-put.result) (shows_there _ _ _ _ c.write_line-step.ensures.1) c.put-put.ensures
+
+-- ---- the needs
+pub loop-at-init : goal.loop-at-init
+loop-at-init c = (search rules, sofar_start drafted _ _ _)
+
+pub shape_of-out-then-e-text : goal.shape_of-out-then-e-text
+shape_of-out-then-e-text c = sofar_length drafted _ _ _ _ _ _ _ c.loop-at.invariant.1
+
+pub returns-then-e-text : goal.returns-then-e-text
+returns-then-e-text c = sofar_part drafted _ _ _ _ _ _ _ c.loop-at.invariant.1 _ (ends c).0 c.if-e-text.true
+
+pub slice_bounds-write_line-count : goal.slice_bounds-write_line-count
+slice_bounds-write_line-count c = omega (arith, (ends c).1)
+
+pub slice_bounds-write_line-start : goal.slice_bounds-write_line-start
+slice_bounds-write_line-start c = omega (arith, (ends c).1)
+
+pub slice_bounds-write_line-end : goal.slice_bounds-write_line-end
+slice_bounds-write_line-end c = omega (arith, (ends c).2)
+
+pub write_line-step-requires : goal.write_line-step-requires
+write_line-step-requires c = omega (arith, c.loop-at.invariant.0)
+
+pub slice_bounds-put-end : goal.slice_bounds-put-end
+slice_bounds-put-end c = omega (arith, (written c).0, (written c).1)
+
+pub shape_of-out-then-put-n : goal.shape_of-out-then-put-n
+shape_of-out-then-put-n c = c.put-put.auto.1.1.0 ∙ sofar_length drafted _ _ _ _ _ _ _ c.loop-at.invariant.1
+
+pub returns-then-put-n : goal.returns-then-put-n
+returns-then-put-n c = let v = c.loop-at in sofar_full drafted _ _ _ _ _ _ _ v.invariant.1 _ (ends c).0 (ends c).1 (inside c) _ _ (put_line c) c.if-put-n.true
+
+pub overflow_add-at : goal.overflow_add-at
+overflow_add-at c = record { fits = omega (arith, inside c, c.well-formed) }
+
+pub loop-at-smaller : goal.loop-at-smaller
+loop-at-smaller c = omega (arith, inside c, (ends c).1)
+
+pub loop-at-preserved : goal.loop-at-preserved
+loop-at-preserved c = let v = c.loop-at in let w = c.write_line-step in (w.auto.1.1.0 ∙ v.invariant.0, sofar_as drafted _ _ _ _ _ _ _ _ w.ensures.0 (sofar_next drafted _ _ _ _ _ _ _ v.invariant.1 _ (ends c).0 (ends c).1 (inside c) _ _ (put_line c) c.if-put-n.false))
+
+pub shape_of-out : goal.shape_of-out
+shape_of-out c = sofar_length drafted _ _ _ _ _ _ _ c.loop-at.invariant.1
+
+pub returns : goal.returns
+returns c = sofar_end drafted _ _ _ _ _ _ _ c.loop-at.invariant.1 c.loop-at-test.false

@@ -1,0 +1,51 @@
+use Rattle.decimal.specs.Laws.{decimal_shown}
+use Rattle.notices.specs.Notices.{notice_text}
+use Rattle.answers.specs.Answers.{numbered, refusal_text}
+use Rattle.answers.specs.Laws.{length_numbered, length_refusal}
+use Rattle.books.specs.Books.{books_in}
+use Rattle.text.specs.Laws.{room_yes, digits_shown}
+use Rattle.wire.specs.Laws.{shows_as, shows_whole}
+use Rattle.tables.specs.Choice.{passed}
+use borrow.Author.Tests.{le-ltb}
+use lib.ListN.{length}
+use native.Mathlib.Omega.{arith}
+use mathlib.Core.List.{[], ◌∷◌}
+use mathlib.Core.Path.{refl, ap, sym, ◌∙◌}
+use borrow.Author.Rules.{rules}
+use Rattle.notices.proofs.put_text.Goals as goal
+
+pub returns-in-Unread : goal.returns-in-Unread
+unfolding notice_text
+returns-in-Unread c =
+    rw (ap (λ a. notice_text a c.args.purse c.args.log c.args.stage c.args.chain) c.in-Unread.is) (shows_whole (0x3F ∷ []) c.args.text.now _ 1 refl (omega arith) c.lay.ensures)
+
+pub returns-in-Number : goal.returns-in-Number
+unfolding notice_text
+returns-in-Number c =
+    let v = c.notice-1.given in
+    shows_as _ _ _ _ _ (room_yes (length c.args.text.now) (numbered v.0.0) (omega (arith, length_numbered v.0.0)) ∙ sym (ap (λ a. notice_text a c.args.purse c.args.log c.args.stage c.args.chain) v.1)) c.put_number.ensures
+
+pub returns-in-Refusal : goal.returns-in-Refusal
+unfolding notice_text
+returns-in-Refusal c =
+    let v = c.notice-in-Refusal-1.given in
+    shows_as _ _ _ _ _ (room_yes (length c.args.text.now) (refusal_text v.0.0) (omega (arith, length_refusal v.0.0)) ∙ sym (ap (λ a. notice_text a c.args.purse c.args.log c.args.stage c.args.chain) v.1)) c.put_number_but_0.ensures
+
+pub returns-in-Status : goal.returns-in-Status
+unfolding notice_text
+returns-in-Status c =
+    let v = c.notice-in-Status-1.given in
+    let two = v.0.0 ∷ v.0.1.0 ∷ [] in
+    shows_as _ _ _ _ _ (digits_shown (length c.args.text.now) two (omega arith) ∙ sym (ap (λ a. notice_text a c.args.purse c.args.log c.args.stage c.args.chain) v.1)) c.put_digits.ensures
+
+pub returns-in-Count : goal.returns-in-Count
+unfolding notice_text
+returns-in-Count c =
+    let v = c.notice-in-Count-1.given in
+    shows_as _ _ _ _ _ (decimal_shown (length c.args.text.now) v.0.0 (omega arith) ∙ sym (ap (λ a. notice_text a c.args.purse c.args.log c.args.stage c.args.chain) v.1)) c.put_decimal.ensures
+
+pub returns-in-Books : goal.returns-in-Books
+unfolding notice_text books_in
+returns-in-Books c =
+    let e = ap (λ a. notice_text a c.args.purse c.args.log c.args.stage c.args.chain) c.in-Books.is in
+    shows_as _ _ _ _ _ (passed _ _ (le-ltb (length c.args.text.now) 96 (omega arith)) ∙ sym e) c.put_books.ensures
