@@ -4,7 +4,7 @@ use borrow.Author.Rules.{rules}
 use Rattle.notices.proofs.put.Goals as goal
 
 pub slice_bounds-put-end : goal.slice_bounds-put-end
-slice_bounds-put-end c = let p = c.put_text-len in omega (arith, shows_fits _ _ _ _ p.ensures p.auto.1.1.1.1.1.0, p.auto.1.1.1.1.1.0)
+slice_bounds-put-end c = let p = c.put_text-len in omega (arith, shows_fits _ _ _ _ p.ensures p.auto.text, p.auto.text)
 
 pub returns : goal.returns
 returns c = rw (shows_there _ _ _ _ c.put_text-len.ensures) at c.put.ensures

@@ -22,27 +22,23 @@ returns-in-Unread c =
 pub returns-in-Number : goal.returns-in-Number
 unfolding notice_text
 returns-in-Number c =
-    let v = c.notice-1.given in
-    shows_as _ _ _ _ _ (room_yes (length c.args.text.now) (numbered v.0.0) (omega (arith, length_numbered v.0.0)) ∙ sym (ap (λ a. notice_text a c.args.purse c.args.log c.args.stage c.args.chain) v.1)) c.put_number.ensures
+    shows_as _ _ _ _ _ (room_yes (length c.args.text.now) (numbered c.in-Number.n) (omega (arith, length_numbered c.in-Number.n)) ∙ sym (ap (λ a. notice_text a c.args.purse c.args.log c.args.stage c.args.chain) c.in-Number.is)) c.put_number.ensures
 
 pub returns-in-Refusal : goal.returns-in-Refusal
 unfolding notice_text
 returns-in-Refusal c =
-    let v = c.notice-in-Refusal-1.given in
-    shows_as _ _ _ _ _ (room_yes (length c.args.text.now) (refusal_text v.0.0) (omega (arith, length_refusal v.0.0)) ∙ sym (ap (λ a. notice_text a c.args.purse c.args.log c.args.stage c.args.chain) v.1)) c.put_number_but_0.ensures
+    shows_as _ _ _ _ _ (room_yes (length c.args.text.now) (refusal_text c.in-Refusal.n) (omega (arith, length_refusal c.in-Refusal.n)) ∙ sym (ap (λ a. notice_text a c.args.purse c.args.log c.args.stage c.args.chain) c.in-Refusal.is)) c.put_number_but_0.ensures
 
 pub returns-in-Status : goal.returns-in-Status
 unfolding notice_text
 returns-in-Status c =
-    let v = c.notice-in-Status-1.given in
-    let two = v.0.0 ∷ v.0.1.0 ∷ [] in
-    shows_as _ _ _ _ _ (digits_shown (length c.args.text.now) two (omega arith) ∙ sym (ap (λ a. notice_text a c.args.purse c.args.log c.args.stage c.args.chain) v.1)) c.put_digits.ensures
+    let two = c.in-Status.high ∷ c.in-Status.low ∷ [] in
+    shows_as _ _ _ _ _ (digits_shown (length c.args.text.now) two (omega arith) ∙ sym (ap (λ a. notice_text a c.args.purse c.args.log c.args.stage c.args.chain) c.in-Status.is)) c.put_digits.ensures
 
 pub returns-in-Count : goal.returns-in-Count
 unfolding notice_text
 returns-in-Count c =
-    let v = c.notice-in-Count-1.given in
-    shows_as _ _ _ _ _ (decimal_shown (length c.args.text.now) v.0.0 (omega arith) ∙ sym (ap (λ a. notice_text a c.args.purse c.args.log c.args.stage c.args.chain) v.1)) c.put_decimal.ensures
+    shows_as _ _ _ _ _ (decimal_shown (length c.args.text.now) c.in-Count.n (omega arith) ∙ sym (ap (λ a. notice_text a c.args.purse c.args.log c.args.stage c.args.chain) c.in-Count.is)) c.put_decimal.ensures
 
 pub returns-in-Books : goal.returns-in-Books
 unfolding notice_text books_in

@@ -1,0 +1,12 @@
+use Rattle.card.specs.Laws.{delivers}
+use borrow.Author.Rules.{rules}
+use mathlib.Core.Path.{refl}
+use Rattle.card.proofs.Card.deliver.Goals as goal
+
+pub close_last-len-requires : goal.close_last-len-requires
+close_last-len-requires c = c.requires
+
+pub returns : goal.returns
+returns c =
+    let a = c.args in
+    delivers a.self a.bytes.now a.reply.now c.next_place.ensures c.write.ensures c.advanced.ensures refl c.close_last-len.ensures

@@ -1,0 +1,8 @@
+use Rattle.card.specs.Laws.{refused_answers}
+use borrow.Author.Rules.{rules}
+use Rattle.card.proofs.Card.refuse.Goals as goal
+
+pub returns : goal.returns
+returns c =
+    let w = c.say-len.ensures in
+    refused_answers c.args.self c.args.status c.args.reply.now c.requires c.ended-card.ensures w.0 w.1
