@@ -15,25 +15,25 @@ use Rattle.drafts.proofs.run.Goals.{After-line_end-e, After-put-put, After-write
 
 -- ---- what the places of a turn know
 -- the line goes up to the next LF
-ends : (c : After-line_end-e invariant-loop decreases-loop) → Ends c.args.text.now c.loop-at.at c.line_end-e.result
+ends : (c : After-line_end-e) → Ends c.args.text.now c.loop-at.at c.line_end-e.result
 ends c = line_ends c.args.text.now c.loop-at.at c.loop-at.invariant.1.place c.line_end-e.ensures
 
-inside : (c : Else-e-text invariant-loop decreases-loop) → c.line_end-e.result < length c.args.text.now
-inside c = omega (arith, c.if-e-text.false, (ends c).2)
+inside : (c : Else-e-text) → c.line_end-e.result < length c.args.text.now
+inside c = omega (arith, c.if-e-text.false, (line_ends c.args.text.now c.loop-at.at c.loop-at.invariant.1.place c.line_end-e.ensures).2)
 
 -- what it writes lies at the front of its buffer
-written : (c : After-write_line-step invariant-loop decreases-loop) → (c.write_line-step.result.len ≤ 1024) × (length c.write_line-step.new.1.1.0 ≡ 1024)
+written : (c : After-write_line-step) → (c.write_line-step.result.len ≤ 1024) × (length c.write_line-step.new.text ≡ 1024)
 written c =
     let w = c.write_line-step in
     let l = c.loop-at.invariant.0 in
-    let k = w.auto.1.1.0 in
+    let k = w.auto.text in
     (omega (arith, shows_fits _ _ _ _ w.ensures.1 k), k ∙ l)
 
 -- and was put behind what was written before
-put_line : (c : After-put-put invariant-loop decreases-loop) → let v = c.loop-at in
-    Adds (in_room (length v.out - v.n) ((drafted v.draft (part c.args.text.now v.at c.line_end-e.result)).out ++ 0x0A ∷ [])) v.out v.n c.put-put.new.1.1.0 c.put-put.result
+put_line : (c : After-put-put) → let v = c.loop-at in
+    Adds (in_room (length v.out - v.n) ((drafted v.draft (part c.args.text.now v.at c.line_end-e.result)).out ++ 0x0A ∷ [])) v.out v.n c.put-put.new.out c.put-put.result
 put_line c = let v = c.loop-at in
-    subst (λ (x : List ℕ). Adds (in_room (length v.out - v.n) (x ++ 0x0A ∷ [])) v.out v.n c.put-put.new.1.1.0 c.put-put.result) (shows_there _ _ _ _ c.write_line-step.ensures.1) c.put-put.ensures
+    subst (λ (x : List ℕ). Adds (in_room (length v.out - v.n) (x ++ 0x0A ∷ [])) v.out v.n c.put-put.new.out c.put-put.result) (shows_there _ _ _ _ c.write_line-step.ensures.1) c.put-put.ensures
 
 -- ---- the needs
 pub loop-at-init : goal.loop-at-init
@@ -43,37 +43,43 @@ pub shape_of-out-then-e-text : goal.shape_of-out-then-e-text
 shape_of-out-then-e-text c = sofar_length drafted _ _ _ _ _ _ _ c.loop-at.invariant.1
 
 pub returns-then-e-text : goal.returns-then-e-text
-returns-then-e-text c = sofar_part drafted _ _ _ _ _ _ _ c.loop-at.invariant.1 _ (ends c).0 c.if-e-text.true
+returns-then-e-text c = sofar_part drafted _ _ _ _ _ _ _ c.loop-at.invariant.1 _ (ends (goal.at.returns-then-e-text c).After-line_end-e).0 c.if-e-text.true
 
 pub slice_bounds-write_line-count : goal.slice_bounds-write_line-count
-slice_bounds-write_line-count c = omega (arith, (ends c).1)
+slice_bounds-write_line-count c = omega (arith, (ends (goal.at.slice_bounds-write_line-count c).After-line_end-e).1)
 
 pub slice_bounds-write_line-start : goal.slice_bounds-write_line-start
-slice_bounds-write_line-start c = omega (arith, (ends c).1)
+slice_bounds-write_line-start c = omega (arith, (ends (goal.at.slice_bounds-write_line-start c).After-line_end-e).1)
 
 pub slice_bounds-write_line-end : goal.slice_bounds-write_line-end
-slice_bounds-write_line-end c = omega (arith, (ends c).2)
+slice_bounds-write_line-end c = omega (arith, (ends (goal.at.slice_bounds-write_line-end c).After-line_end-e).2)
 
 pub write_line-step-requires : goal.write_line-step-requires
 write_line-step-requires c = omega (arith, c.loop-at.invariant.0)
 
 pub slice_bounds-put-end : goal.slice_bounds-put-end
-slice_bounds-put-end c = omega (arith, (written c).0, (written c).1)
+slice_bounds-put-end c =
+    let p = (goal.at.slice_bounds-put-end c).After-write_line-step in
+    omega (arith, (written p).0, (written p).1)
 
 pub shape_of-out-then-put-n : goal.shape_of-out-then-put-n
-shape_of-out-then-put-n c = c.put-put.auto.1.1.0 ∙ sofar_length drafted _ _ _ _ _ _ _ c.loop-at.invariant.1
+shape_of-out-then-put-n c = c.put-put.auto.out ∙ sofar_length drafted _ _ _ _ _ _ _ c.loop-at.invariant.1
 
 pub returns-then-put-n : goal.returns-then-put-n
-returns-then-put-n c = let v = c.loop-at in sofar_full drafted _ _ _ _ _ _ _ v.invariant.1 _ (ends c).0 (ends c).1 (inside c) _ _ (put_line c) c.if-put-n.true
+returns-then-put-n c =
+    let p = (goal.at.returns-then-put-n c).After-line_end-e in
+    let v = c.loop-at in sofar_full drafted _ _ _ _ _ _ _ v.invariant.1 _ (ends p).0 (ends p).1 (inside (goal.at.returns-then-put-n c).Else-e-text) _ _ (put_line (goal.at.returns-then-put-n c).After-put-put) c.if-put-n.true
 
 pub overflow_add-at : goal.overflow_add-at
-overflow_add-at c = record { fits = omega (arith, inside c, c.well-formed) }
+overflow_add-at c = record { fits = omega (arith, inside (goal.at.overflow_add-at c).Else-e-text, c.well_formed) }
 
 pub loop-at-smaller : goal.loop-at-smaller
-loop-at-smaller c = omega (arith, inside c, (ends c).1)
+loop-at-smaller c = omega (arith, inside (goal.at.loop-at-smaller c).Else-e-text, (ends (goal.at.loop-at-smaller c).After-line_end-e).1)
 
 pub loop-at-preserved : goal.loop-at-preserved
-loop-at-preserved c = let v = c.loop-at in let w = c.write_line-step in (w.auto.1.1.0 ∙ v.invariant.0, sofar_as drafted _ _ _ _ _ _ _ _ w.ensures.0 (sofar_next drafted _ _ _ _ _ _ _ v.invariant.1 _ (ends c).0 (ends c).1 (inside c) _ _ (put_line c) c.if-put-n.false))
+loop-at-preserved c =
+    let p = (goal.at.loop-at-preserved c).After-line_end-e in
+    let v = c.loop-at in let w = c.write_line-step in (w.auto.text ∙ v.invariant.0, sofar_as drafted _ _ _ _ _ _ _ _ w.ensures.0 (sofar_next drafted _ _ _ _ _ _ _ v.invariant.1 _ (ends p).0 (ends p).1 (inside (goal.at.loop-at-preserved c).Else-e-text) _ _ (put_line (goal.at.loop-at-preserved c).After-put-put) c.if-put-n.false))
 
 pub shape_of-out : goal.shape_of-out
 shape_of-out c = sofar_length drafted _ _ _ _ _ _ _ c.loop-at.invariant.1

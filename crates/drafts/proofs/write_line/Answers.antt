@@ -18,7 +18,7 @@ use Rattle.drafts.proofs.write_line.Goals.{After-spell-size}
 
 -- whether the line is digits, and the bytes that they spell
 line_digits : (c : After-spell-size) → let l = c.args.line.now in
-    (is_hex l ≡ eqb (2 * c.spell-size.result) (length l)) × (is_hex l ≡ true → part c.spell-size.new.1.0 0 c.spell-size.result ≡ spelt l) × (c.spell-size.result ≤ 512)
+    (is_hex l ≡ eqb (2 * c.spell-size.result) (length l)) × (is_hex l ≡ true → part c.spell-size.new.out 0 c.spell-size.result ≡ spelt l) × (c.spell-size.result ≤ 512)
 line_digits c = digits_by c.args.line.now (replicate 512 0) _ _ c.if-n-gt-LONGEST_LINE.false (omega arith) c.spell-size.ensures
 
 pub returns-then-n-gt-LONGEST_LINE : goal.returns-then-n-gt-LONGEST_LINE

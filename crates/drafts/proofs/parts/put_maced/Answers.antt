@@ -4,7 +4,7 @@ use borrow.Author.Rules.{rules}
 use Rattle.drafts.proofs.parts.put_maced.Goals as goal
 
 pub returns-then-not-draft : goal.returns-then-not-draft
-returns-then-not-draft c = writes_as c.args.text.now _ _ (maced_none c.args.draft c.args.frame.now not-true _ c.if-not-draft.true) c.put_unread.ensures
+returns-then-not-draft c = writes_as c.args.text.now _ _ (maced_none c.args.draft c.args.frame.now (not-true _ c.if-not-draft.true)) c.put_unread.ensures
 
 pub returns-then-n-eq0 : goal.returns-then-n-eq0
 returns-then-n-eq0 c = writes_as c.args.text.now _ _ (maced_zero c.args.draft c.args.frame.now _ _ _ c.seal_frame-n.ensures c.if-n-eq0.true) c.put_unread-then-n-eq0.ensures
@@ -13,4 +13,4 @@ pub slice_bounds-put_digits-end : goal.slice_bounds-put_digits-end
 slice_bounds-put_digits-end c = let z = maced_size c.args.draft c.args.frame.now _ _ _ c.seal_frame-n.ensures c.if-n-eq0.false in search rules
 
 pub returns : goal.returns
-returns c = maced_some c.args.draft c.args.frame.now _ _ _ c.seal_frame-n.ensures c.if-n-eq0.false _ c.args.text.now _ _ not-false _ c.if-not-draft.false c.counted.ensures c.requires c.put_digits-len.ensures
+returns c = maced_some c.args.draft c.args.frame.now _ _ _ c.seal_frame-n.ensures c.if-n-eq0.false _ c.args.text.now _ _ (not-false _ c.if-not-draft.false) c.counted.ensures c.requires c.put_digits-len.ensures

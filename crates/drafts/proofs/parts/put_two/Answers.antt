@@ -4,16 +4,16 @@ use mathlib.Core.Path.{◌≡◌}
 use native.Mathlib.Omega.{arith}
 use borrow.Author.Rules.{rules}
 use Rattle.drafts.proofs.parts.put_two.Goals as goal
-use Rattle.drafts.proofs.parts.put_two.Goals.{After-second-1, Start}
+use Rattle.drafts.proofs.parts.put_two.Goals.{After-second-1}
 
-eight : (s : Start) → length s.args.first ≡ 8
+eight : (s : After-second-1) → length s.args.first ≡ 8
 eight s = search rules
 
-thirty_eight : (s : Start) → length s.args.second ≡ 38
+thirty_eight : (s : After-second-1) → length s.args.second ≡ 38
 thirty_eight s = search rules
 
 -- the first frame is spelt, and LF stands behind it
-sizes : (c : After-second-1) → (c.put_digits-n.result ≡ 16) × (length c.lay.new.0 ≡ length c.args.text.now)
+sizes : (c : After-second-1) → (c.put_digits-n.result ≡ 16) × (length c.lay.new.dst ≡ length c.args.text.now)
 sizes c =
     let w = c.put_digits-n.ensures in
     let a = c.args in
@@ -23,16 +23,24 @@ pub overflow_add-n : goal.overflow_add-n
 overflow_add-n c = omega (arith, (sizes (goal.at.overflow_add-n c).After-second-1).0)
 
 pub slice_bounds-put_digits-count : goal.slice_bounds-put_digits-count
-slice_bounds-put_digits-count c = omega (arith, (sizes (goal.at.slice_bounds-put_digits-count c).After-second-1).0, (sizes (goal.at.slice_bounds-put_digits-count c).After-second-1).1, c.requires)
+slice_bounds-put_digits-count c =
+    let p = (goal.at.slice_bounds-put_digits-count c).After-second-1 in
+    omega (arith, (sizes p).0, (sizes p).1, c.requires)
 
 pub slice_bounds-put_digits-start : goal.slice_bounds-put_digits-start
-slice_bounds-put_digits-start c = omega (arith, (sizes (goal.at.slice_bounds-put_digits-start c).After-second-1).0, (sizes (goal.at.slice_bounds-put_digits-start c).After-second-1).1, c.requires)
+slice_bounds-put_digits-start c =
+    let p = (goal.at.slice_bounds-put_digits-start c).After-second-1 in
+    omega (arith, (sizes p).0, (sizes p).1, c.requires)
 
 pub overflow_add-result : goal.overflow_add-result
 overflow_add-result c = omega (arith, (sizes (goal.at.overflow_add-result c).After-second-1).0)
 
 pub overflow_add-result-2 : goal.overflow_add-result-2
-overflow_add-result-2 c = let k = second_size c.args.first c.args.second c.args.text.now (eight (goal.at.overflow_add-result-2 c).Start) (thirty_eight (goal.at.overflow_add-result-2 c).Start) c.requires _ _ c.put_digits-n.ensures _ c.lay.ensures _ _ c.put_digits-m.ensures in omega (arith, (sizes (goal.at.overflow_add-result-2 c).After-second-1).0)
+overflow_add-result-2 c =
+    let p = (goal.at.overflow_add-result-2 c).After-second-1 in
+    let k = second_size c.args.first c.args.second c.args.text.now (eight p) (thirty_eight p) c.requires _ _ c.put_digits-n.ensures _ c.lay.ensures _ _ c.put_digits-m.ensures in omega (arith, (sizes p).0)
 
 pub returns : goal.returns
-returns c = two_shown c.args.first c.args.second c.args.text.now (eight (goal.at.returns c).Start) (thirty_eight (goal.at.returns c).Start) c.requires _ _ c.put_digits-n.ensures _ c.lay.ensures _ _ c.put_digits-m.ensures
+returns c =
+    let p = (goal.at.returns c).After-second-1 in
+    two_shown c.args.first c.args.second c.args.text.now (eight p) (thirty_eight p) c.requires _ _ c.put_digits-n.ensures _ c.lay.ensures _ _ c.put_digits-m.ensures
