@@ -1,4 +1,5 @@
 -- One operation more: what it does to the books of an open transaction.
+use Rattle.wire.specs.Bytes.{laid}
 use Rattle.std.specs.Prelude.{ℕ, ◌+◌, Bool, true, false, ◌||◌, List, [], ◌∷◌, ◌++◌, ◌≡◌, refl, ℤ, pos, ◌+ℤ◌, ◌-ℤ◌, neg_ℤ, take, replicate}
 use Rattle.std.proofs.Math.Bool.{or-false, or-true, or_assoc}
 use Rattle.std.proofs.Common.{true≢false, sym, ◌∙◌, ap, arith, add-zero, take-take}
@@ -23,7 +24,7 @@ overwritten_snoc e [] o = refl
 overwritten_snoc e (paid_in n ∷ os) o = overwritten_snoc e os o
 overwritten_snoc e (paid_out n ∷ os) o = overwritten_snoc e os o
 overwritten_snoc e (rebooked n ∷ os) o = overwritten_snoc e os o
-overwritten_snoc e (entered at bytes ∷ os) o = overwritten_snoc _ os o
+overwritten_snoc e (entered at bytes ∷ os) o = overwritten_snoc (laid e at bytes) os o
 overwritten_snoc e (cleared ∷ os) o = overwritten_snoc e os o
 
 pub ruleset one_more = (sum_snoc, some_snoc, overwritten_snoc, add-zero, or-false, or-true)

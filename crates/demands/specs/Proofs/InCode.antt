@@ -78,33 +78,33 @@ unknown_same c k r e q = ap (λ (y : Reply). y.card) (q ∙ sym (session_unknown
 follows_from : (c k : Card) (es : List Event) (ss : List Said) (d : Card) → k ≡ c → Follows k es ss d → Follows c es ss d
 follows_from c k es ss d e h = rw e at h
 
-ran_follows : {c d : Card} {es : List Event} {ss : List Said} → Ran d c es ss → Kept c → Follows c es ss d
+ran_follows : {d c : Card} {es : List Event} {ss : List Said} → Ran d c es ss → Kept c → Follows c es ss d
 ran_follows done h = unfold run along in (refl, refl)
-ran_follows {c} {d} (commands {es = es} {ss = ss} f u handed before after r room a rest) h =
+ran_follows {d} {c} (commands {es = es} {ss = ss} f u handed before after r room a rest) h =
     let b : Answered (outcome c (command f u handed)) before after r = unfold outcome commanded in answered_as _ _ before after r (same_room c h _ (length before) room) a in
     event_follows c d (command f u handed) es ss before after r b (ran_follows rest (kept_after c h (command f u handed) before after r b))
-ran_follows {c} {d} (openings {es = es} {ss = ss} f before after r room a rest) h =
+ran_follows {d} {c} (openings {es = es} {ss = ss} f before after r room a rest) h =
     let b : Answered (outcome c (opens f)) before after r = unfold outcome chain_opened in answered_as _ _ before after r (same_room c h _ (length before) room) a in
     event_follows c d (opens f) es ss before after r b (ran_follows rest (kept_after c h (opens f) before after r b))
-ran_follows {c} {d} (frames {es = es} {ss = ss} x before after r room a rest) h =
+ran_follows {d} {c} (frames {es = es} {ss = ss} x before after r room a rest) h =
     let b : Answered (outcome c (delivers x)) before after r = unfold outcome bytes_sent in answered_as _ _ before after r (same_room c h _ (length before) room) a in
     event_follows c d (delivers x) es ss before after r b (ran_follows rest (kept_after c h (delivers x) before after r b))
-ran_follows {c} {d} (changes {es = es} {ss = ss} k known r q rest) h =
+ran_follows {d} {c} (changes {es = es} {ss = ss} k known r q rest) h =
     let b = session_answers c h k known r q in
     event_follows c d (session k known) es ss [] [] r b (ran_follows rest (kept_after c h (session k known) [] [] r b))
-ran_follows {c} {d} (powers {es = es} {ss = ss} r q rest) h =
+ran_follows {d} {c} (powers {es = es} {ss = ss} r q rest) h =
     let b = power_answers c h r q in
     event_follows c d power es ss [] [] r b (ran_follows rest (kept_after c h power [] [] r b))
-ran_follows {c} {d} {es} {ss} (short f u before after r less a rest) h =
+ran_follows {d} {c} {es} {ss} (short f u before after r less a rest) h =
     let e = (short_same c before after r (played (view c) u f) less (unfold commanded in a)).0 in
     follows_from c r.card es ss d e (ran_follows rest (subst (λ (k : Card). Kept k) (sym e) h))
-ran_follows {c} {d} {es} {ss} (short_opening f before after r less a rest) h =
+ran_follows {d} {c} {es} {ss} (short_opening f before after r less a rest) h =
     let e = ((opening_replies c f before after r a).short less).0 in
     follows_from c r.card es ss d e (ran_follows rest (subst (λ (k : Card). Kept k) (sym e) h))
-ran_follows {c} {d} {es} {ss} (short_frame x before after r less a rest) h =
+ran_follows {d} {c} {es} {ss} (short_frame x before after r less a rest) h =
     let e = ((frame_replies c x before after r a).short less).0 in
     follows_from c r.card es ss d e (ran_follows rest (subst (λ (k : Card). Kept k) (sym e) h))
-ran_follows {c} {d} {es} {ss} (unknown k r q p rest) h =
+ran_follows {d} {c} {es} {ss} (unknown k r q p rest) h =
     let e = unknown_same c k r q p in
     follows_from c r.card es ss d e (ran_follows rest (subst (λ (k : Card). Kept k) (sym e) h))
 
