@@ -6,8 +6,8 @@
 //! all answers take. Says on standard error how many characters of the script
 //! were answered.
 //!
-//! It has a C main, so that it runs under the kit's emulator too, which does not
-//! bear the start of Rust's runtime. A program for x86-64 alone needs none.
+//! It has a C main, so that it also runs under an emulator that does not bear
+//! the start of Rust's runtime. A program for x86-64 alone needs none.
 
 #![no_main]
 

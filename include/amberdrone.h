@@ -1,5 +1,5 @@
-/* The card for programs in other languages: the function of target/staticlib/libembedded.a, an archive for x86-64 Linux
-   that `rt staticlib embedded` proves and writes. */
+/* The card for programs in other languages: the function of crates/embedded/out/libembedded.a, an archive for x86-64 Linux
+   that `rt lib` proves and writes in crates/embedded. */
 #ifndef AMBERDRONE_H
 #define AMBERDRONE_H
 

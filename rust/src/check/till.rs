@@ -84,7 +84,7 @@ fn try_till(
     };
     // One card plays all, with a power-up between them.
     let script = [&sale, &sale, before, after].map(|part| part.join("\n") + "\n");
-    let transcript = place.program(place.root.join("target/bin/transcript"));
+    let transcript = place.program(place.root.join("crates/transcript/out/transcript"));
     let played = child::run(&transcript, script.join("\n").as_bytes());
     let answers = lines(&played.map_err(|error| error.to_string())?.output);
     let expected: Vec<&[String]> = answers.split(String::is_empty).collect();

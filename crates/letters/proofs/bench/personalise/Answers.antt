@@ -11,24 +11,14 @@ use mir.Val.{SFits}
 use mir.Syntax.{w32}
 use mathlib.Core.Path.{ap, ◌∙◌}
 use borrow.Author.Rules.{rules}
-use Rattle.letters.proofs.bench.personalise.Statement.{statement}
-use Rattle.letters.proofs.bench.personalise.Tie as tie
+use Rattle.letters.proofs.bench.personalise.Goals as goal
 
-read-requires : tie.Need-read-requires
-read-requires c κs = tt
-
-personalise-requires : tie.Need-personalise-requires
-personalise-requires c κs = tt
-
-returns : tie.Need-returns
+pub returns : goal.returns
 unfolding said_of notice_text counted after_event reply_of
 returns c =
-    let k = c.before.before.before.before.before.before.before.args.desk in
-    let o = c.before.before.before.before.before.read in
+    let k = c.args.desk in
+    let o = c.read-order in
     let f : SFits w32 o.result.value = search rules in
     let v = ap (λ z. reply_of (personalised o.result.settings o.result.keys z)) (to_z-of_z f) in
-    let e = c.before.personalise.ensures ∙ (v ∙ ap (λ (x : Order). reply_of (personalised x.settings x.keys x.value)) o.ensures) in
+    let e = c.personalise-made.ensures ∙ (v ∙ ap (λ (x : Order). reply_of (personalised x.settings x.keys x.value)) o.ensures) in
     ap (λ (x : Reply). record { next = after_event k x.card x.stored; out = numbered x.refusal }) e
-
-pub personalise_spec : {M : Type 1} → statement M
-personalise_spec = tie.close (tie.spec read-requires personalise-requires returns)
