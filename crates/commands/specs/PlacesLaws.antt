@@ -1,5 +1,5 @@
 -- The places as the code asks them.
-use Rattle.std.specs.Prelude.{ℕ, Bool, ◌&&◌, ◌||◌, List, ◌≡◌, length}
+use Rattle.std.specs.Prelude.{ℕ, Bool, ◌&&◌, ◌||◌, List, ◌≡◌}
 use Rattle.std.proofs.Math.Path.{refl}
 use Rattle.purse.specs.declared.Purse.{Purse}
 use Rattle.logfile.specs.declared.Log.{Log}

@@ -1,14 +1,6 @@
-use borrow.Author.Rules.{rules}
-use mathlib.Core.Path.{◌≡◌, ap, ◌∙◌, sym}
-use mathlib.Core.List.{List, []}
-use Prim.Native.Nat.{ℕ, zero, suc, ◌≤◌, ◌<◌, ◌-◌}
-use native.Mathlib.Nat.{not-suc-le-zero}
-use native.Mathlib.Omega.{arith}
-use lib.ListN.{get_or}
-use Rattle.field.specs.Bytes.{◌⊞◌}
-use Rattle.fips197.specs.Sbox.{inv_sbox}
-use Rattle.fips197.specs.Steps.{bytewise, inv_shift_rows}
-use Rattle.fips197.specs.Cipher.{inv_round, inv_rounds, inv_cipher}
+use mathlib.Core.Path.{◌≡◌}
+use Prim.Native.Nat.{◌≤◌}
+use Rattle.fips197.specs.Cipher.{inv_rounds}
 use Rattle.aes.proofs.inv_cipher.Given as goal
 
 abbrev pub invariant-loop-i : goal.invariant-loop-i

@@ -4,7 +4,6 @@ use Rattle.tables.specs.Choice.{picked, passed}
 use borrow.Author.Tests.{eq-eqb, ne_eqb}
 use lib.Dec.{ltb}
 use mathlib.Core.Path.{sym, ap, ◌∙◌}
-use borrow.Author.Rules.{rules}
 use Rattle.answers.proofs.fits.Goals as goal
 
 pub returns-then-refusal-ne0 : goal.returns-then-refusal-ne0

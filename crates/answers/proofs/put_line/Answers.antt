@@ -1,11 +1,9 @@
-
 use Rattle.answers.proofs.Steps.{line_short, line_size, line_added}
 use Rattle.answers.specs.Answers.{reply_size}
-use borrow.Author.Tests.{not-true, not-false, ltb-false}
+use borrow.Author.Tests.{ltb-false}
 use lib.ListN.{length}
 use native.Mathlib.Omega.{arith}
-use mathlib.Core.Path.{sym, ◌∙◌, ap}
-use borrow.Author.Rules.{rules}
+use mathlib.Core.Path.{sym, ◌∙◌}
 use Rattle.answers.proofs.put_line.Goals as goal
 
 pub returns-then-out-at : goal.returns-then-out-at

@@ -5,7 +5,6 @@ use Rattle.answers.specs.Laws.{length_numbered}
 use lib.ListN.{length}
 use native.Mathlib.Omega.{arith}
 use mathlib.Core.Path.{refl, sym}
-use borrow.Author.Rules.{rules}
 use Rattle.answers.proofs.put_number.Goals as goal
 
 pub returns-then-answer-lt2 : goal.returns-then-answer-lt2

@@ -5,7 +5,6 @@ use Rattle.tables.specs.Choice.{picked, passed}
 use borrow.Author.Tests.{eq-eqb, ne_eqb}
 use lib.ListN.{length}
 use mathlib.Core.Path.{sym, ap}
-use borrow.Author.Rules.{rules}
 use Rattle.answers.proofs.put_reply.Goals as goal
 
 pub returns-then-refusal-ne0 : goal.returns-then-refusal-ne0

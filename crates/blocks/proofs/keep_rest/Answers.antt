@@ -2,7 +2,6 @@ use Rattle.wire.specs.Bytes.{laid}
 use Rattle.blocks.specs.Laws.{counted, rest_counted, length_rest}
 use native.Mathlib.Omega.{arith}
 use mathlib.Core.Path.{ap, ◌∙◌}
-use borrow.Author.Rules.{rules}
 use Rattle.blocks.proofs.keep_rest.Goals as goal
 
 pub returns : goal.returns

@@ -1,8 +1,7 @@
 use Rattle.blocks.specs.Laws.{moves, moved}
-use lib.Seq.{paste, paste-zero}
-use lib.ListN.{length, drop, length-set}
+use lib.Seq.{paste-zero}
+use lib.ListN.{drop, length-set}
 use native.Mathlib.Omega.{arith}
-use Prim.Native.Nat.{◌-◌, ◌≤◌}
 use mathlib.Core.Path.{◌≡◌, refl, ◌∙◌}
 use Rattle.blocks.proofs.move_down.Goals as goal
 

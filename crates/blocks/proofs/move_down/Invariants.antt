@@ -1,9 +1,7 @@
-use Rattle.blocks.specs.Laws.{moves, moved}
-use lib.Seq.{paste, paste-zero}
-use lib.ListN.{length, drop, length-set}
-use native.Mathlib.Omega.{arith}
+use lib.Seq.{paste}
+use lib.ListN.{length, drop}
 use Prim.Native.Nat.{◌-◌, ◌≤◌}
-use mathlib.Core.Path.{◌≡◌, refl, ◌∙◌}
+use mathlib.Core.Path.{◌≡◌}
 use Rattle.blocks.proofs.move_down.Given as goal
 
 abbrev pub invariant-loop-i : goal.invariant-loop-i

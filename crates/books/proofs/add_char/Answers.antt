@@ -1,5 +1,4 @@
 use Rattle.text.specs.Adds.{adds_room}
-use borrow.Author.Rules.{rules}
 use Rattle.books.proofs.add_char.Goals as goal
 
 pub returns : goal.returns

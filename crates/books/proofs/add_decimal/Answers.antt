@@ -1,6 +1,5 @@
 use native.Mathlib.Omega.{arith}
 use Rattle.text.specs.Adds.{adds_then}
-use borrow.Author.Rules.{rules}
 use Rattle.books.proofs.add_decimal.Goals as goal
 
 pub returns : goal.returns

@@ -1,7 +1,6 @@
 use native.Mathlib.Omega.{arith}
 use Rattle.tables.specs.Choice.{pick}
 use Rattle.text.specs.Adds.{adds_none}
-use borrow.Author.Rules.{rules}
 use Rattle.books.proofs.add_letter.Goals as goal
 
 pub returns-then-flag : goal.returns-then-flag

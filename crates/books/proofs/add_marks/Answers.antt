@@ -1,6 +1,5 @@
 use Rattle.books.specs.Books.{marks_text}
 use Rattle.text.specs.Adds.{adds_then}
-use borrow.Author.Rules.{rules}
 use Rattle.books.proofs.add_marks.Goals as goal
 
 pub returns : goal.returns

@@ -2,7 +2,6 @@ use Rattle.text.specs.Adds.{adds_shown}
 use Rattle.decimal.specs.Laws.{decimal_size}
 use native.Mathlib.Omega.{arith}
 use Rattle.decimal.specs.Laws.{decimal_most, decimal_shown}
-use borrow.Author.Rules.{rules}
 use Rattle.books.proofs.add_number.Goals as goal
 
 pub slice_bounds-lay-end : goal.slice_bounds-lay-end

@@ -1,7 +1,6 @@
 use native.Mathlib.Omega.{arith}
 use Rattle.books.specs.Books.{pending_letters}
 use Rattle.text.specs.Adds.{adds_then}
-use borrow.Author.Rules.{rules}
 use Rattle.books.proofs.add_pending.Goals as goal
 
 pub returns : goal.returns

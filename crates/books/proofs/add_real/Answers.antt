@@ -1,5 +1,4 @@
 use Rattle.text.specs.Adds.{adds_then}
-use borrow.Author.Rules.{rules}
 use Rattle.books.proofs.add_real.Goals as goal
 
 pub returns : goal.returns

@@ -5,7 +5,6 @@ use native.Mathlib.Omega.{arith}
 use Rattle.decimal.specs.Laws.{signed_most, signed_shown}
 use Rattle.text.specs.Adds.{adds_shown, adds_then}
 use Rattle.decimal.specs.Laws.{signed_size}
-use borrow.Author.Rules.{rules}
 use Rattle.books.proofs.add_signed.Goals as goal
 
 pub slice_bounds-lay-end : goal.slice_bounds-lay-end

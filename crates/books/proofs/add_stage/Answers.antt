@@ -1,5 +1,4 @@
 use Rattle.books.specs.Books.{stage_text}
-use borrow.Author.Rules.{rules}
 use Rattle.books.proofs.add_stage.Goals as goal
 
 pub returns-in-Closed : goal.returns-in-Closed

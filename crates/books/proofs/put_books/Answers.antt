@@ -5,7 +5,6 @@ use Rattle.wire.specs.Laws.{shows_as, shows_none}
 use Rattle.tables.specs.Choice.{picked, passed}
 use borrow.Author.Tests.{lt-ltb, le-ltb}
 use mathlib.Core.Path.{sym}
-use borrow.Author.Rules.{rules}
 use Rattle.books.proofs.put_books.Goals as goal
 
 pub returns-then-answer-lt-ROOM : goal.returns-then-answer-lt-ROOM

@@ -1,15 +1,7 @@
-use borrow.Author.Rules.{rules}
-use mathlib.Core.Path.{◌≡◌, refl, ap, ap₂, ◌∙◌, sym}
-use mathlib.Core.List.{List}
-use Prim.Native.Nat.{ℕ, suc, ◌+◌, ◌*◌, ◌-◌, ◌<◌, ◌≤◌}
-use native.Mathlib.Numerals.{add-one}
-use native.Mathlib.Omega.{arith}
-use lib.ListN.{length, get_or, drop, drop_of_length-le}
-use lib.Seq.{drop-cons}
-use Rattle.fips197.specs.Cipher.{cipher}
-use Rattle.cmac.specs.declared.Held.{Held}
-use Rattle.cmac.specs.Fed.{put, holding, fed}
-use Rattle.cmac.proofs.Stream.{step_in, step_full}
+use mathlib.Core.Path.{◌≡◌}
+use Prim.Native.Nat.{◌+◌, ◌*◌, ◌-◌}
+use lib.ListN.{length, drop}
+use Rattle.cmac.specs.Fed.{holding, fed}
 use Rattle.cmac.proofs.feed.Given as goal
 
 abbrev pub invariant-loop-i : goal.invariant-loop-i

@@ -1,4 +1,3 @@
-use lib.Dec.{lit<}
 use mathlib.Core.Path.{ap}
 use Rattle.cmac.specs.Cmac.{truncated}
 use Rattle.cmac.proofs.short_tag.Goals as goal

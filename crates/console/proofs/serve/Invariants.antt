@@ -1,9 +1,6 @@
-use Rattle.lines.specs.Laws.{goes_within}
-use Rattle.script.specs.Lines.{line_said}
 use mathlib.Core.Path.{◌≡◌}
 use Prim.Native.Nat.{◌≤◌}
 use lib.ListN.{length}
-use borrow.Author.Rules.{rules}
 use Rattle.console.proofs.serve.Given as goal
 
 abbrev pub invariant-loop-turns : goal.invariant-loop-turns

@@ -1,6 +1,5 @@
 use Rattle.datafiles.specs.Files.{end_of}
 use Rattle.tables.specs.Choice.{choice}
-use borrow.Author.Rules.{rules}
 use Rattle.datafiles.proofs.end_of.Goals as goal
 
 pub returns-then-len-eq0 : goal.returns-then-len-eq0

@@ -1,5 +1,4 @@
 use Rattle.wire.specs.Laws.{shows_part}
-use borrow.Author.Rules.{rules}
 use Rattle.datafiles.proofs.show_part.Goals as goal
 
 pub returns : goal.returns

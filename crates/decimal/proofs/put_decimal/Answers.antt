@@ -4,7 +4,6 @@ use lib.ListN.{length}
 use Rattle.decimal.proofs.Steps.{digits_left}
 use Rattle.text.specs.Shown.{in_room}
 use Rattle.decimal.specs.Shown.{decimal_in}
-use borrow.Author.Rules.{rules}
 use Rattle.decimal.proofs.put_decimal.Goals as goal
 
 pub returns : goal.returns

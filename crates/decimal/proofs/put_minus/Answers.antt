@@ -4,7 +4,6 @@ use mathlib.Core.List.{◌∷◌}
 use lib.ListN.{length}
 use Rattle.decimal.proofs.Steps.{digits_left}
 use Rattle.text.specs.Shown.{in_room}
-use borrow.Author.Rules.{rules}
 use Rattle.decimal.proofs.put_minus.Goals as goal
 
 pub returns : goal.returns

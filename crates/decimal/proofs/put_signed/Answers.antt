@@ -10,7 +10,6 @@ use Rattle.decimal.specs.Decimal.{decimal}
 use mir.Facts.{to_z-of_z}
 use lib.IntN.{pos, nat_abs}
 use lib.Signed.{lt_z}
-use borrow.Author.Rules.{rules}
 use Rattle.decimal.proofs.put_signed.Goals as goal
 
 pub returns-then-z-lt0 : goal.returns-then-z-lt0

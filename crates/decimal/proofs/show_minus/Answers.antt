@@ -5,7 +5,6 @@ use lib.ListN.{length, length-set}
 use mathlib.Core.Path.{sym, ◌∙◌}
 use native.Mathlib.Omega.{arith}
 use mathlib.Core.List.{[], ◌∷◌}
-use borrow.Author.Rules.{rules}
 use Rattle.decimal.proofs.show_minus.Goals as goal
 
 pub returns-then-out-n : goal.returns-then-out-n

@@ -4,7 +4,6 @@ use mir.Val.{to_z, of_z}
 use mir.Facts.{to_z-of_z}
 use Prim.Native.Nat.{◌-◌}
 use native.Mathlib.Omega.{arith}
-use borrow.Author.Rules.{rules}
 use Rattle.decimal.proofs.size.Goals as goal
 use Rattle.decimal.proofs.size.Goals.{Then-z-lt0}
 

@@ -1,8 +1,5 @@
-use Rattle.decimal.specs.Decimal.{trimmed}
 use Rattle.decimal.proofs.Steps.{trim_more, trim_stop, trim_last}
-use lib.ListN.{length, drop}
-use Prim.Native.Nat.{◌-◌, ◌<◌}
-use mathlib.Core.Path.{◌≡◌, refl, sym, ◌∙◌}
+use mathlib.Core.Path.{refl, sym, ◌∙◌}
 use native.Mathlib.Omega.{arith}
 use Rattle.decimal.proofs.zeros.Goals as goal
 

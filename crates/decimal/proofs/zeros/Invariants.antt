@@ -1,9 +1,7 @@
 use Rattle.decimal.specs.Decimal.{trimmed}
-use Rattle.decimal.proofs.Steps.{trim_more, trim_stop, trim_last}
 use lib.ListN.{length, drop}
 use Prim.Native.Nat.{◌-◌, ◌<◌}
-use mathlib.Core.Path.{◌≡◌, refl, sym, ◌∙◌}
-use native.Mathlib.Omega.{arith}
+use mathlib.Core.Path.{◌≡◌}
 use Rattle.decimal.proofs.zeros.Given as goal
 
 -- the first i are leading zeros

@@ -7,7 +7,6 @@ use Rattle.std.proofs.lemmas.Bool.{not-false}
 use Rattle.tables.specs.Choice.{pick, pick_both, pick_cases}
 use Rattle.roles.specs.declared.Role.{Role}
 use Rattle.datafiles.specs.declared.Files.{Files}
-use Rattle.datafiles.specs.Files as files
 use Rattle.datafiles.specs.Laws.{Sized, written_sized}
 use Rattle.limits.specs.declared.Limits.{Limits}
 use Rattle.limits.specs.Limits.{crossed}

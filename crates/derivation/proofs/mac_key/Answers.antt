@@ -2,7 +2,6 @@ use Rattle.derivation.specs.Derivation.{mac_key}
 use Rattle.cmac.specs.Cmac.{cmac}
 use mathlib.Core.Path.{ap, ◌∙◌}
 use mathlib.Core.List.{append-nil}
-use borrow.Author.Rules.{rules}
 use Rattle.derivation.proofs.mac_key.Goals as goal
 
 pub returns : goal.returns

@@ -5,7 +5,6 @@ use lib.Seq.{length-take-le}
 use native.Mathlib.Nat.{sub-zero}
 use native.Mathlib.Omega.{arith}
 use mathlib.Core.Path.{◌∙◌}
-use borrow.Author.Rules.{rules}
 use Rattle.description.proofs.lay_figure.Goals as goal
 
 pub returns : goal.returns

@@ -1,7 +1,6 @@
 use Rattle.wire.specs.Laws.{shows_then, shows_whole}
 use native.Mathlib.Omega.{arith}
 use mathlib.Core.Path.{refl}
-use borrow.Author.Rules.{rules}
 use Rattle.description.proofs.lay_head.Goals as goal
 
 pub returns : goal.returns

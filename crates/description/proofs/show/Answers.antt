@@ -5,7 +5,6 @@ use Rattle.tables.specs.Choice.{hit, skip}
 use borrow.Author.Tests.{lt-ltb, le-ltb}
 use native.Mathlib.Omega.{arith}
 use mathlib.Core.Path.{refl, sym, ◌∙◌}
-use borrow.Author.Rules.{rules}
 use Rattle.description.proofs.show.Goals as goal
 
 pub returns-then-reply-lt17 : goal.returns-then-reply-lt17

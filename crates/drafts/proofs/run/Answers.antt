@@ -1,7 +1,7 @@
 use Rattle.drafts.specs.Drafts.{drafted}
 use Rattle.lines.specs.Laws.{Ends, line_ends}
 use Rattle.wire.specs.Laws.{shows_fits, shows_there}
-use Rattle.lines.specs.Sofar.{Sofar, sofar_start, sofar_length, sofar_end, sofar_part, sofar_full, sofar_next, sofar_as}
+use Rattle.lines.specs.Sofar.{sofar_start, sofar_length, sofar_end, sofar_part, sofar_full, sofar_next, sofar_as}
 use Rattle.text.specs.Shown.{in_room, Adds}
 use Rattle.wire.specs.Bytes.{part}
 use borrow.Author.Rules.{rules}

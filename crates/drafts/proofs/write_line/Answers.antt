@@ -12,7 +12,6 @@ use Prim.Native.Nat.{◌*◌, ◌≤◌}
 use mathlib.Core.Bool.{true}
 use mathlib.Core.Path.{◌≡◌, ap, ◌∙◌}
 use native.Mathlib.Omega.{arith}
-use borrow.Author.Rules.{rules}
 use Rattle.drafts.proofs.write_line.Goals as goal
 use Rattle.drafts.proofs.write_line.Goals.{After-spell-size}
 

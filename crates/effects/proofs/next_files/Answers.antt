@@ -1,6 +1,5 @@
 use Rattle.effects.specs.Effects.{files_after}
 use Rattle.tables.specs.Choice.{order}
-use borrow.Author.Rules.{rules}
 use Rattle.effects.proofs.next_files.Goals as goal
 
 pub returns-then-ins-eq-WRITE_DATA : goal.returns-then-ins-eq-WRITE_DATA

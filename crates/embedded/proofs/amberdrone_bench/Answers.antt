@@ -4,7 +4,6 @@ use Rattle.desk.specs.Program.{program_desk}
 use lib.ListN.{length}
 use mathlib.Core.List.{[]}
 use mathlib.Core.Bool.{true}
-use borrow.Author.Rules.{rules}
 use Rattle.embedded.proofs.amberdrone_bench.Goals as goal
 
 pub returns : goal.returns

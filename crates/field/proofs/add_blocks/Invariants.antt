@@ -1,12 +1,7 @@
-use borrow.Author.Rules.{rules}
-use mathlib.Core.Path.{◌≡◌, refl, ap, ◌∙◌, sym}
-use Prim.Native.Nat.{ℕ, ◌≤◌, ◌-◌}
-use native.Mathlib.Omega.{arith}
-use lib.ListN.{length, get_or, take, length-set}
-use lib.Seq.{take_all}
-use Rattle.field.specs.Field.{◌⊕◌}
-use Rattle.field.specs.Bytes.{sum, ◌⊞◌}
-use Rattle.field.specs.Laws.{stored_next}
+use mathlib.Core.Path.{◌≡◌}
+use Prim.Native.Nat.{◌≤◌, ◌-◌}
+use lib.ListN.{length, take}
+use Rattle.field.specs.Bytes.{sum}
 use Rattle.field.proofs.add_blocks.Given as goal
 
 abbrev pub invariant-loop-i : goal.invariant-loop-i

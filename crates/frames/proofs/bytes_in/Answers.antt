@@ -2,7 +2,6 @@ use lib.ListN.{length}
 use native.Mathlib.Omega.{arith}
 use Prim.Native.Nat.{◌-◌}
 use mathlib.Core.Path.{◌≡◌, refl}
-use borrow.Author.Rules.{rules}
 use Rattle.frames.proofs.bytes_in.Goals as goal
 
 pub returns-then-d-lt7 : goal.returns-then-d-lt7

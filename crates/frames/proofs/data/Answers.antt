@@ -1,5 +1,4 @@
 use Rattle.frames.specs.Laws.{data_between}
-use borrow.Author.Rules.{rules}
 use Rattle.frames.proofs.data.Goals as goal
 
 pub returns : goal.returns

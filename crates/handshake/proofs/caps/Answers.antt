@@ -1,7 +1,6 @@
 use mathlib.Core.List.{[], ◌∷◌}
 use Rattle.handshake.proofs.Laying.{caps_listed}
 use mathlib.Core.Path.{◌∙◌}
-use borrow.Author.Rules.{rules}
 use Rattle.handshake.proofs.caps.Goals as goal
 
 pub returns : goal.returns

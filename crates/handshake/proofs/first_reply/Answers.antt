@@ -1,5 +1,4 @@
 use Rattle.handshake.specs.Handshake.{first_reply}
-use borrow.Author.Rules.{rules}
 use Rattle.handshake.proofs.first_reply.Goals as goal
 
 pub returns : goal.returns

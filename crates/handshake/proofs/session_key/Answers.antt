@@ -3,7 +3,6 @@ use Rattle.derivation.specs.Derivation.{mac_key}
 use mathlib.Core.Path.{ap, ◌∙◌}
 use mathlib.Core.List.{List}
 use Prim.Native.Nat.{ℕ}
-use borrow.Author.Rules.{rules}
 use Rattle.handshake.proofs.session_key.Goals as goal
 
 pub returns : goal.returns

@@ -2,7 +2,6 @@ use mathlib.Core.Path.{ap}
 use Prim.Native.Nat.{ℕ}
 use Rattle.held.specs.declared.Draft.{Draft}
 use Rattle.held.specs.Held.{counted}
-use borrow.Author.Rules.{rules}
 use Rattle.held.proofs.counted.Goals as goal
 
 abbrev at : Draft → ℕ → Draft

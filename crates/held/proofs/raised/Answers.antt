@@ -1,6 +1,5 @@
 use Rattle.held.specs.Held.{raised}
 use Rattle.tables.specs.Choice.{choice}
-use borrow.Author.Rules.{rules}
 use Rattle.held.proofs.raised.Goals as goal
 
 pub returns-then-c-lt65535 : goal.returns-then-c-lt65535

@@ -4,7 +4,6 @@ use lib.Dec.{eqb}
 use Rattle.held.specs.Held.{sent}
 use mathlib.Core.Path.{sym, ap, ◌∙◌}
 use Rattle.tables.specs.Choice.{picked, passed}
-use borrow.Author.Rules.{rules}
 use Rattle.held.proofs.sent.Goals as goal
 
 pub returns-then-ins : goal.returns-then-ins

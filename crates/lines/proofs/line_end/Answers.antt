@@ -1,6 +1,5 @@
-use Rattle.lines.specs.Laws.{Nears, length_end, length_on, length_none}
-use Prim.Native.Nat.{◌+◌, ◌-◌}
-use lib.ListN.{length}
+use Rattle.lines.specs.Laws.{length_end, length_on, length_none}
+use Prim.Native.Nat.{◌+◌}
 use mathlib.Core.Path.{sym, ap, ◌∙◌}
 use native.Mathlib.Nat.{add-zero}
 use native.Mathlib.Numerals.{add-one}

@@ -1,6 +1,3 @@
-use Rattle.lines.specs.Laws.{Nears}
-use borrow.Author.Tests.{not-false}
-use Prim.Native.Nat.{◌-◌}
 use mathlib.Core.Path.{refl}
 use native.Mathlib.Omega.{arith}
 use Rattle.lines.proofs.near_end.Goals as goal

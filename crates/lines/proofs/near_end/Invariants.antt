@@ -1,8 +1,5 @@
 use Rattle.lines.specs.Laws.{Nears}
-use borrow.Author.Tests.{not-false}
 use Prim.Native.Nat.{◌-◌}
-use mathlib.Core.Path.{refl}
-use native.Mathlib.Omega.{arith}
 use Rattle.lines.proofs.near_end.Given as goal
 
 abbrev pub invariant-loop-i : goal.invariant-loop-i

@@ -1,6 +1,5 @@
 use Rattle.lines.specs.Laws.{put_short, put_all}
 use native.Mathlib.Omega.{arith}
-use borrow.Author.Rules.{rules}
 use Rattle.lines.proofs.put.Goals as goal
 
 pub returns-then-out-at : goal.returns-then-out-at

@@ -1,5 +1,4 @@
 use Rattle.lines.specs.Laws.{two_on}
-use borrow.Author.Rules.{rules}
 use Rattle.lines.proofs.two_more.Goals as goal
 
 pub returns : goal.returns

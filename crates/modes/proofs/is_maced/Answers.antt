@@ -2,7 +2,6 @@ use Rattle.modes.specs.Laws.{maced_by}
 use Rattle.modes.specs.Modes.{maced_under}
 use Rattle.tables.specs.Choice.{and_left}
 use mathlib.Core.Path.{sym, ◌∙◌}
-use borrow.Author.Tests.{not-true, not-false}
 use Rattle.columns.specs.Row.{told}
 use Rattle.modes.proofs.is_maced.Goals as goal
 

@@ -1,5 +1,4 @@
 use Rattle.modes.specs.Laws.{mac_part}
-use borrow.Author.Rules.{rules}
 use Rattle.modes.proofs.mac.Goals as goal
 
 pub returns : goal.returns

@@ -1,6 +1,5 @@
 use native.Mathlib.Omega.{arith}
 use Rattle.modes.specs.Laws.{plain_inside, plain_part}
-use borrow.Author.Rules.{rules}
 use Rattle.modes.proofs.plain.Goals as goal
 
 pub slice_bounds-result-end : goal.slice_bounds-result-end

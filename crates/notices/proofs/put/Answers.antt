@@ -1,6 +1,5 @@
 use Rattle.wire.specs.Laws.{shows_fits, shows_there}
 use native.Mathlib.Omega.{arith}
-use borrow.Author.Rules.{rules}
 use Rattle.notices.proofs.put.Goals as goal
 
 pub slice_bounds-put-end : goal.slice_bounds-put-end

@@ -8,7 +8,6 @@ use lib.ListN.{length}
 use mathlib.Core.List.{[]}
 use mathlib.Core.Path.{sym, ap, ◌∙◌}
 use native.Mathlib.Omega.{arith}
-use borrow.Author.Rules.{rules}
 use Rattle.notices.proofs.put_number_but_0.Goals as goal
 
 pub returns-then-n-eq0 : goal.returns-then-n-eq0

@@ -4,7 +4,6 @@ use mathlib.Core.Path.{ap}
 use Prim.Native.Nat.{ℕ}
 use Rattle.held.specs.declared.Draft.{Draft}
 use Rattle.opening.specs.Opening.{opened}
-use borrow.Author.Rules.{rules}
 use Rattle.opening.proofs.opened.Goals as goal
 
 abbrev keyed : Draft → List ℕ → Draft

@@ -1,6 +1,5 @@
 use Rattle.orders.specs.Order.{file_in}
 use mathlib.Core.Path.{refl}
-use borrow.Author.Rules.{rules}
 use Rattle.orders.proofs.file_in.Goals as goal
 
 pub returns : goal.returns

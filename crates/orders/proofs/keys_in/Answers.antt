@@ -2,7 +2,6 @@ use Rattle.keys.specs.declared.Keys.{Keys}
 use mathlib.Core.List.{List}
 use Prim.Native.Nat.{ℕ}
 use Rattle.orders.specs.Order.{keys_in}
-use borrow.Author.Rules.{rules}
 use Rattle.orders.proofs.keys_in.Goals as goal
 
 abbrev keys_of : List ℕ → List ℕ → List ℕ → List ℕ → List ℕ → Keys

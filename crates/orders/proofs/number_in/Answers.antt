@@ -1,7 +1,6 @@
 use Rattle.orders.specs.Order.{number_in}
 use Rattle.tables.specs.Choice.{choice}
 use mathlib.Core.Path.{◌∙◌}
-use borrow.Author.Rules.{rules}
 use Rattle.orders.proofs.number_in.Goals as goal
 
 pub returns-then-b-le-NUMBERS : goal.returns-then-b-le-NUMBERS

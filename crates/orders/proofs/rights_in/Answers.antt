@@ -1,6 +1,5 @@
 use Rattle.orders.specs.Order.{le2}
 use native.Mathlib.Omega.{arith}
-use borrow.Author.Rules.{rules}
 use Rattle.orders.proofs.rights_in.Goals as goal
 
 pub returns : goal.returns

@@ -1,13 +1,7 @@
 use Rattle.orders.specs.Order.{sixteen}
-use Rattle.orders.specs.Laws.{length_sixteen, sixteen_byte}
-use lib.ListN.{length, take, length-set}
-use lib.Seq.{take_all, take-suc, take-suc-set}
-use native.Mathlib.Numerals.{add-one}
-use native.Mathlib.Omega.{arith}
-use Prim.Native.Nat.{ℕ, ◌-◌, ◌≤◌}
-use mathlib.Core.List.{List, [], ◌∷◌, ◌++◌}
-use mathlib.Core.Path.{◌≡◌, refl, ap₂, sym, ◌∙◌}
-use borrow.Author.Rules.{rules}
+use lib.ListN.{length, take}
+use Prim.Native.Nat.{◌-◌, ◌≤◌}
+use mathlib.Core.Path.{◌≡◌}
 use Rattle.orders.proofs.sixteen_at.Given as goal
 
 -- the first i bytes are there

@@ -1,8 +1,6 @@
 use mathlib.Core.Bool.{not}
 use mathlib.Core.Path.{ap}
 use Rattle.parameters.specs.Laws.{long_other, long_plain, long_by}
-use borrow.Author.Tests.{not-false}
-use borrow.Author.Rules.{rules}
 use Rattle.parameters.proofs.is_long_read.Goals as goal
 
 pub returns-then-ins-ne-READ_DATA : goal.returns-then-ins-ne-READ_DATA

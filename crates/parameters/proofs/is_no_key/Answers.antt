@@ -1,4 +1,3 @@
-
 use Rattle.parameters.proofs.is_no_key.Goals as goal
 
 pub returns : goal.returns

@@ -1,10 +1,6 @@
-use mathlib.Core.Path.{◌≡◌, refl, ◌∙◌}
-use Prim.Native.Nat.{◌≤◌, ◌-◌}
+use mathlib.Core.Path.{refl, ◌∙◌}
 use native.Mathlib.Omega.{arith}
 use borrow.Author.Rules.{rules}
-use lib.ListN.{length}
-use Rattle.wire.specs.Bytes.{laid}
-use Rattle.records.specs.Shown.{oldest_first}
 use Rattle.records.proofs.Reading.{oldest_none, oldest_step, oldest_all}
 use Rattle.records.proofs.lay_entries.Goals as goal
 

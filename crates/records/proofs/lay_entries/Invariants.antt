@@ -1,11 +1,8 @@
-use mathlib.Core.Path.{◌≡◌, refl, ◌∙◌}
+use mathlib.Core.Path.{◌≡◌}
 use Prim.Native.Nat.{◌≤◌, ◌-◌}
-use native.Mathlib.Omega.{arith}
-use borrow.Author.Rules.{rules}
 use lib.ListN.{length}
 use Rattle.wire.specs.Bytes.{laid}
 use Rattle.records.specs.Shown.{oldest_first}
-use Rattle.records.proofs.Reading.{oldest_none, oldest_step, oldest_all}
 use Rattle.records.proofs.lay_entries.Given as goal
 
 abbrev pub invariant-loop-k : goal.invariant-loop-k

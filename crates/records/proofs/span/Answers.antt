@@ -1,6 +1,5 @@
 use native.Mathlib.Omega.{arith}
 use Rattle.tables.specs.Choice.{choice}
-use borrow.Author.Rules.{rules}
 use Rattle.records.proofs.span.Goals as goal
 
 pub returns-then-count-eq0 : goal.returns-then-count-eq0

@@ -7,7 +7,6 @@ use mir.Val.{of_z}
 use mir.Syntax.{w32}
 use native.Mathlib.Omega.{arith}
 use mathlib.Core.Path.{refl}
-use borrow.Author.Rules.{rules}
 use Rattle.replies.proofs.show_value.Goals as goal
 
 pub returns-then-reply-lt4 : goal.returns-then-reply-lt4

@@ -1,5 +1,4 @@
 use Rattle.told.specs.Told.{said_of}
-use borrow.Author.Rules.{rules}
 use Rattle.script.proofs.put_told.Goals as goal
 
 pub returns : goal.returns

@@ -1,6 +1,6 @@
 use Rattle.script.specs.Lines.{commanded_on, line_said}
 use Rattle.script.proofs.Steps.{front_holds, own_state, written, line, played_full, played_next, ends, told_full, told_next}
-use Rattle.lines.specs.Sofar.{Sofar, sofar_start, sofar_length, sofar_end, sofar_part, sofar_as}
+use Rattle.lines.specs.Sofar.{sofar_start, sofar_length, sofar_end, sofar_part, sofar_as}
 use Rattle.told.specs.Told.{after_event}
 use Rattle.told.specs.Laws.{Plays, plays_lent, reply_bytes}
 use Rattle.desk.specs.Laws.{lent_most}
@@ -15,7 +15,6 @@ use lib.Seq.{length_front}
 use native.Mathlib.Omega.{arith}
 use Prim.Native.Nat.{ℕ, ◌+◌, ◌-◌, ◌*◌, ◌≤◌, ◌<◌}
 use mathlib.Core.List.{List, ◌++◌}
-use mathlib.Core.Logic.{⊎_elim}
 use mathlib.Core.Path.{◌≡◌, ◌∙◌}
 use Rattle.script.proofs.run.Goals as goal
 use Rattle.script.proofs.run.Goals.{After-command-played, After-line_end-e, Then-size-gt0, then-out-n-lt-MOST_ANSWER, else-out-n-lt-MOST_ANSWER}
@@ -86,7 +85,7 @@ returns-then-put-n c =
     let v = c.loop-at in
     let a = c.args in
     elim c.if-out-n-lt-MOST_ANSWER.branch [
-      then-out-n-lt-MOST_ANSWER w ↦ rw w.desk-is (played_full a.desk a.text.now a.out.now (here v.desk v.played) v.at v.n v.out v.invariant.1 _ c.spell_frame-size.ensures.0 c.if-size-gt0.true _ c.spell_frame-size.ensures.1 (buffer p) _ (plays p) _ _ c.put_line-put.ensures c.if-put-n.true)
+      | then-out-n-lt-MOST_ANSWER w ↦ rw w.desk-is (played_full a.desk a.text.now a.out.now (here v.desk v.played) v.at v.n v.out v.invariant.1 _ c.spell_frame-size.ensures.0 c.if-size-gt0.true _ c.spell_frame-size.ensures.1 (buffer p) _ (plays p) _ _ c.put_line-put.ensures c.if-put-n.true)
       | else-out-n-lt-MOST_ANSWER w ↦ absurd (written v.out _ v.n _ _ (replied p) c.put_line-put.ensures (replied_most p) w.if-out-n-lt-MOST_ANSWER.false c.if-put-n.true)
     ]
 

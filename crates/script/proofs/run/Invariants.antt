@@ -1,21 +1,9 @@
-use Rattle.script.specs.Lines.{commanded_on, line_said}
-use Rattle.script.proofs.Steps.{front_holds, own_state, written, line, played_full, played_next, ends, told_full, told_next}
-use Rattle.lines.specs.Sofar.{Sofar, sofar_start, sofar_length, sofar_end, sofar_part, sofar_as}
+use Rattle.script.specs.Lines.{line_said}
+use Rattle.lines.specs.Sofar.{Sofar}
 use Rattle.told.specs.Told.{after_event}
-use Rattle.told.specs.Laws.{Plays, plays_lent, reply_bytes}
-use Rattle.desk.specs.Laws.{lent_most}
-use Rattle.card.specs.Events.{commanded}
-use Rattle.desk.specs.declared.Desk.{Desk}
-use Rattle.wire.specs.Bytes.{part}
-use Rattle.wire.specs.Laws.{length_part}
-use borrow.Author.Rules.{rules}
-use lib.ListN.{length, drop}
-use lib.Seq.{length_front}
-use native.Mathlib.Omega.{arith}
-use Prim.Native.Nat.{ℕ, ◌+◌, ◌-◌, ◌*◌, ◌≤◌, ◌<◌}
-use mathlib.Core.List.{List, ◌++◌}
-use mathlib.Core.Logic.{⊎_elim}
-use mathlib.Core.Path.{◌≡◌, ◌∙◌}
+use lib.ListN.{length}
+use Prim.Native.Nat.{◌-◌}
+use mathlib.Core.Path.{◌≡◌}
 use Rattle.script.proofs.run.Given as goal
 
 -- the desk of the run has the card of the last reply

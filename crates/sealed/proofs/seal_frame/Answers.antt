@@ -5,7 +5,6 @@ use Rattle.wire.specs.Laws.{shows_as, shows_none}
 use lib.ListN.{length}
 use native.Mathlib.Omega.{arith}
 use mathlib.Core.Path.{sym, ap}
-use borrow.Author.Rules.{rules}
 use Rattle.sealed.proofs.seal_frame.Goals as goal
 
 pub returns-then-frame-lt5 : goal.returns-then-frame-lt5

@@ -1,5 +1,4 @@
 use Rattle.standing.specs.Parts.{chain_broken}
-use borrow.Author.Rules.{rules}
 use Rattle.standing.proofs.chain_breaks.Goals as goal
 
 pub returns : goal.returns

@@ -1,6 +1,5 @@
 use Rattle.text.specs.Hex.{capital}
 use Rattle.tables.specs.Choice.{choice}
-use borrow.Author.Rules.{rules}
 use Rattle.text.proofs.capital_of.Goals as goal
 
 pub returns-then-n-lt10 : goal.returns-then-n-lt10

@@ -1,10 +1,8 @@
 use Rattle.text.specs.Hex.{in_digits}
-use Rattle.text.proofs.Steps.{high_at, low_at, filled, filled_more, filled_laid}
-use Rattle.text.specs.Laws.{length_digits}
-use lib.ListN.{length, length-set}
-use Prim.Native.Nat.{◌+◌, ◌*◌, ◌-◌, ◌≤◌}
-use mathlib.Core.Path.{◌≡◌, refl, ◌∙◌}
-use native.Mathlib.Omega.{arith}
+use Rattle.text.proofs.Steps.{filled}
+use lib.ListN.{length}
+use Prim.Native.Nat.{◌*◌, ◌-◌, ◌≤◌}
+use mathlib.Core.Path.{◌≡◌}
 use Rattle.text.proofs.digits_all.Given as goal
 
 -- the digits of the first i bytes are laid

@@ -5,7 +5,6 @@ use mathlib.Core.List.{[]}
 use native.Mathlib.Omega.{arith}
 use Rattle.text.specs.Laws.{length_digits, digits_shown, digits_short}
 use Rattle.text.specs.Hex.{in_digits}
-use borrow.Author.Rules.{rules}
 use Rattle.text.proofs.put_digits.Goals as goal
 
 pub returns-then-out-n : goal.returns-then-out-n

@@ -1,12 +1,11 @@
 use Rattle.text.specs.Hex.{digit_of, leading}
-use Rattle.text.proofs.Steps.{pair, pair_more, pair_stop, room_half, room_stop, filled, filled_more, filled_shows}
+use Rattle.text.proofs.Steps.{pair, pair_more, pair_stop, room_half, room_stop, filled_more, filled_shows}
 use Rattle.tables.specs.Choice.{and_both, and_left, and_right}
 use borrow.Author.Tests.{lt-ltb, le-ltb}
 use lib.Dec.{ltb}
 use lib.ListN.{length, get_or, take, length-set}
-use Prim.Native.Nat.{◌+◌, ◌*◌, ◌/◌, ◌-◌, ◌≤◌, ◌<◌}
+use Prim.Native.Nat.{◌+◌, ◌*◌, ◌≤◌, ◌<◌}
 use mathlib.Core.Bool.{true}
-use mathlib.Core.Logic.{⊎_elim}
 use mathlib.Core.Path.{◌≡◌, refl, sym, ap, ◌∙◌}
 use native.Mathlib.Omega.{arith}
 use Rattle.text.proofs.spell_by.Goals as goal
@@ -16,7 +15,7 @@ pub loop-i-init : goal.loop-i-init
 loop-i-init c =
     let a = c.args in
     elim c.if-out-most.branch [
-      then-out-most w ↦ (omega arith, omega arith, sym (ap (λ n. take n (leading a.s.now)) w.most-is), omega arith, omega arith, refl, refl)
+      | then-out-most w ↦ (omega arith, omega arith, sym (ap (λ n. take n (leading a.s.now)) w.most-is), omega arith, omega arith, refl, refl)
       | else-out-most w ↦ (omega arith, omega arith, room_half a.s.now (length a.out.now) c.if-out-most.most (omega arith) (omega arith), omega arith, omega arith, refl, refl)
     ]
 

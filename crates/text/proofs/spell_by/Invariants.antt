@@ -1,14 +1,8 @@
-use Rattle.text.specs.Hex.{digit_of, leading}
-use Rattle.text.proofs.Steps.{pair, pair_more, pair_stop, room_half, room_stop, filled, filled_more, filled_shows}
-use Rattle.tables.specs.Choice.{and_both, and_left, and_right}
-use borrow.Author.Tests.{lt-ltb, le-ltb}
-use lib.Dec.{ltb}
-use lib.ListN.{length, get_or, take, length-set}
-use Prim.Native.Nat.{◌+◌, ◌*◌, ◌/◌, ◌-◌, ◌≤◌, ◌<◌}
-use mathlib.Core.Bool.{true}
-use mathlib.Core.Logic.{⊎_elim}
-use mathlib.Core.Path.{◌≡◌, refl, sym, ap, ◌∙◌}
-use native.Mathlib.Omega.{arith}
+use Rattle.text.specs.Hex.{leading}
+use Rattle.text.proofs.Steps.{filled}
+use lib.ListN.{length, take}
+use Prim.Native.Nat.{◌/◌, ◌-◌, ◌≤◌}
+use mathlib.Core.Path.{◌≡◌}
 use Rattle.text.proofs.spell_by.Given as goal
 
 -- the first i bytes are laid; `most` is all that s and the room allow

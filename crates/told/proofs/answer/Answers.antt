@@ -1,6 +1,5 @@
 use Rattle.told.proofs.Steps.{tells_none, tells_two}
 use native.Mathlib.Omega.{arith}
-use borrow.Author.Rules.{rules}
 use Rattle.told.proofs.answer.Goals as goal
 
 pub returns-then-reply-eq0 : goal.returns-then-reply-eq0

@@ -1,7 +1,6 @@
 use Rattle.card.specs.Outcome.{Outcome, Answered}
 use Rattle.tables.specs.Choice.{picked, passed}
 use mathlib.Core.Path.{sym, subst}
-use borrow.Author.Rules.{rules}
 use Rattle.told.proofs.event.Goals as goal
 
 pub returns-then-opens : goal.returns-then-opens

@@ -12,7 +12,6 @@ use native.Mathlib.Omega.{arith}
 use Prim.Native.Nat.{ℕ, ◌-◌}
 use mathlib.Core.List.{List, ◌++◌}
 use mathlib.Core.Path.{◌≡◌, ap}
-use borrow.Author.Rules.{rules}
 use Rattle.told.proofs.play.Goals as goal
 use Rattle.told.proofs.play.Goals.{After-event-played}
 

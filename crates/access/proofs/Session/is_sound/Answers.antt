@@ -1,4 +1,3 @@
-use borrow.Author.Rules.{rules}
 use Rattle.access.proofs.Session.is_sound.Goals as goal
 
 pub returns-in-Key : goal.returns-in-Key

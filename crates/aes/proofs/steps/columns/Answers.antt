@@ -1,4 +1,3 @@
-use lib.Dec.{lit<}
 use borrow.Author.Rules.{rules}
 use mathlib.Core.Path.{ap₂}
 use mathlib.Core.List.{◌++◌}

@@ -1,4 +1,3 @@
-
 use Rattle.aes.proofs.steps.doubled.Goals as goal
 
 pub returns : goal.returns

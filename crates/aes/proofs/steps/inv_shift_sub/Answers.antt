@@ -1,4 +1,3 @@
-use borrow.Author.Rules.{rules}
 use Rattle.fips197.specs.Steps.{bytewise, inv_shift_rows}
 use Rattle.aes.proofs.steps.inv_shift_sub.Goals as goal
 

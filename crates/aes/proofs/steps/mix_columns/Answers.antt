@@ -1,4 +1,3 @@
-use lib.Dec.{lit<}
 use mathlib.Core.Path.{◌∙◌}
 use Rattle.fips197.specs.Steps.{mixed, mix_columns}
 use Rattle.aes.proofs.Columns.{four_columns}

@@ -1,4 +1,3 @@
-use borrow.Author.Rules.{rules}
 use Rattle.fips197.specs.Steps.{bytewise, shift_rows}
 use Rattle.aes.proofs.steps.sub_shift.Goals as goal
 

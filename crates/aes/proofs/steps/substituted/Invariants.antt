@@ -1,12 +1,7 @@
-use borrow.Author.Rules.{rules}
-use mathlib.Core.Path.{◌≡◌, refl, ap, ◌∙◌, sym}
-use Prim.Native.Nat.{ℕ, ◌+◌, ◌*◌, ◌%◌, ◌≤◌, ◌-◌}
-use native.Mathlib.Nat.{mul-le-mul}
-use native.Mathlib.Omega.{arith}
-use lib.ListN.{length, get_or, take, set, length-set}
-use lib.Seq.{take_all}
+use mathlib.Core.Path.{◌≡◌}
+use Prim.Native.Nat.{ℕ, ◌*◌, ◌%◌, ◌≤◌, ◌-◌}
+use lib.ListN.{length, get_or, take}
 use Rattle.lookup.specs.Tables.{tabled, table}
-use Rattle.field.specs.Laws.{stored_next}
 use Rattle.aes.proofs.steps.substituted.Given as goal
 
 abbrev pub invariant-loop-i : goal.invariant-loop-i

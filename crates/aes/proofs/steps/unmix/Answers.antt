@@ -1,4 +1,3 @@
-use lib.Dec.{lit<}
 use mathlib.Core.Path.{ap₂, ◌∙◌}
 use mathlib.Core.List.{List}
 use Prim.Native.Nat.{ℕ}

@@ -17,10 +17,8 @@ use lib.ListN.{length}
 use Prim.Native.Nat.{ℕ, ◌+◌, ◌≤◌}
 use mathlib.Core.Bool.{false}
 use mathlib.Core.List.{List}
-use mathlib.Core.Logic.{⊎_elim}
 use mathlib.Core.Path.{◌≡◌, sym, ap, ◌∙◌}
 use native.Mathlib.Omega.{arith}
-use borrow.Author.Rules.{rules}
 use Rattle.card.proofs.Card.command.Goals as goal
 use Rattle.card.proofs.Card.command.Goals.{After-plain-d, Joined-maced, then-maced, else-maced}
 
@@ -70,14 +68,14 @@ module _ (j : Joined-maced) where
   sealed : Sealed j.counted-next.result j.check-checked.result.maced 0 j.args.reply.now j.if-maced.reply j.if-maced.len
   sealed =
       elim j.if-maced.branch [
-        then-maced w ↦ (w.reply-is ∙ w.seal-len.ensures.0, w.len-is ∙ w.seal-len.ensures.1)
+        | then-maced w ↦ (w.reply-is ∙ w.seal-len.ensures.0, w.len-is ∙ w.seal-len.ensures.1)
         | else-maced w ↦ sealed_plain _ 0 _ space w.if-maced.false (omega arith) (w.reply-is ∙ w.close-len.ensures.0) (w.len-is ∙ w.close-len.ensures.1)
       ]
 
   as_long : length j.if-maced.reply ≡ length j.args.reply.now
   as_long =
       elim j.if-maced.branch [
-        then-maced w ↦ ap length w.reply-is ∙ w.seal-len.auto.reply
+        | then-maced w ↦ ap length w.reply-is ∙ w.seal-len.auto.reply
         | else-maced w ↦ ap length w.reply-is ∙ w.close-len.auto.reply
       ]
 

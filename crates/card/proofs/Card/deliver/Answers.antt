@@ -1,5 +1,4 @@
 use Rattle.card.specs.Laws.{delivers}
-use borrow.Author.Rules.{rules}
 use mathlib.Core.Path.{refl}
 use Rattle.card.proofs.Card.deliver.Goals as goal
 

@@ -1,7 +1,6 @@
 use Rattle.card.specs.Laws.{bench_answers, answered_as, no_bench, bytes_bench, bytes_answered, bytes_refused}
 use Rattle.card.specs.View.{broken}
 use Rattle.card.specs.Events.{reply_room}
-use borrow.Author.Rules.{rules}
 use lib.ListN.{length}
 use Prim.Native.Nat.{◌≤◌}
 use mathlib.Core.Bool.{false}

@@ -2,7 +2,6 @@ use Rattle.card.specs.Laws.{bench_answers, answered_as, no_bench, opening_bench,
 use Rattle.card.specs.View.{view, broken}
 use Rattle.card.specs.Events.{reply_room}
 use Rattle.checks.specs.Order.{status_told, role_told}
-use borrow.Author.Rules.{rules}
 use lib.ListN.{length}
 use Prim.Native.Nat.{◌≤◌}
 use mathlib.Core.Bool.{false}

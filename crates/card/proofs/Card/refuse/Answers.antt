@@ -1,5 +1,4 @@
 use Rattle.card.specs.Laws.{refused_answers}
-use borrow.Author.Rules.{rules}
 use Rattle.card.proofs.Card.refuse.Goals as goal
 
 pub returns : goal.returns

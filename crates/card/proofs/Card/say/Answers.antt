@@ -1,6 +1,5 @@
 use Rattle.wire.specs.Bytes.{laid_in}
 use mathlib.Core.Path.{refl, ap, ◌∙◌}
-use borrow.Author.Rules.{rules}
 use Rattle.card.proofs.Card.say.Goals as goal
 
 pub returns : goal.returns

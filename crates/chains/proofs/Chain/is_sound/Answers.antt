@@ -2,7 +2,6 @@ use Rattle.chains.specs.Chain.{chain_sound}
 use Rattle.tables.specs.Choice.{hit, skip}
 use mathlib.Core.Path.{refl}
 use borrow.Author.Tests.{eq-eqb, ne_eqb}
-use borrow.Author.Rules.{rules}
 use Rattle.chains.proofs.Chain.is_sound.Goals as goal
 
 pub returns-then-self-eq0 : goal.returns-then-self-eq0

@@ -1,6 +1,5 @@
 use Rattle.chains.specs.Chain.{wrong_bytes}
 use mathlib.Core.Path.{refl}
-use borrow.Author.Rules.{rules}
 use Rattle.chains.proofs.Chain.is_wrong.Goals as goal
 
 pub returns : goal.returns

@@ -1,7 +1,6 @@
 use Rattle.chains.specs.Chain.{shortened}
 use Rattle.tables.specs.Choice.{choice, hit}
 use borrow.Author.Tests.{le-leb}
-use borrow.Author.Rules.{rules}
 use Rattle.chains.proofs.Chain.shortened.Goals as goal
 
 pub returns-then-self-n : goal.returns-then-self-n

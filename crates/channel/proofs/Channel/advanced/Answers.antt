@@ -2,7 +2,6 @@ use Rattle.channel.specs.Channel.{advanced}
 use Rattle.tables.specs.Choice.{hit, skip}
 use mathlib.Core.Path.{refl}
 use borrow.Author.Tests.{le-leb, lt-leb}
-use borrow.Author.Rules.{rules}
 use Rattle.channel.proofs.Channel.advanced.Goals as goal
 
 pub returns-then-chain-n : goal.returns-then-chain-n

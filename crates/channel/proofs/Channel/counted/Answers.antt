@@ -1,6 +1,5 @@
 use Rattle.channel.specs.Channel.{counted}
 use mathlib.Core.Path.{refl}
-use borrow.Author.Rules.{rules}
 use Rattle.channel.proofs.Channel.counted.Goals as goal
 
 pub returns : goal.returns

@@ -1,4 +1,3 @@
-use borrow.Author.Rules.{rules}
 use Rattle.channel.proofs.Stage.counted.Goals as goal
 
 pub returns-in-Bench : goal.returns-in-Bench

@@ -1,4 +1,3 @@
-use borrow.Author.Rules.{rules}
 use Rattle.channel.proofs.Stage.of_session.Goals as goal
 
 pub returns-in-Key : goal.returns-in-Key

@@ -1,8 +1,6 @@
 use mathlib.Core.Bool.{not}
 use mathlib.Core.Path.{ap}
 use Rattle.commands.specs.AdmissionLaws.{forged_plain, forged_by}
-use borrow.Author.Tests.{not-false}
-use borrow.Author.Rules.{rules}
 use Rattle.commands.proofs.admission.is_forged.Goals as goal
 
 pub returns-then-not-maced : goal.returns-then-not-maced

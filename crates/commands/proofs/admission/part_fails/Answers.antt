@@ -1,5 +1,4 @@
 use Rattle.commands.specs.AdmissionLaws.{fails_other, fails_by}
-use borrow.Author.Rules.{rules}
 use Rattle.commands.proofs.admission.part_fails.Goals as goal
 
 pub returns-then-ins-ne-AUTHENTICATE_SECOND : goal.returns-then-ins-ne-AUTHENTICATE_SECOND

@@ -1,6 +1,5 @@
 use Rattle.rows.specs.Rows.{sent_of}
 use mathlib.Core.Path.{refl}
-use borrow.Author.Rules.{rules}
 use Rattle.commands.proofs.admission.sent.Goals as goal
 
 pub returns-then-opening : goal.returns-then-opening

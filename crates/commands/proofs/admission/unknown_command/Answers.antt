@@ -1,6 +1,5 @@
 use Rattle.rows.specs.Rows.{unknown_command}
 use mathlib.Core.Path.{refl}
-use borrow.Author.Rules.{rules}
 use Rattle.commands.proofs.admission.unknown_command.Goals as goal
 
 pub returns-then-opening : goal.returns-then-opening

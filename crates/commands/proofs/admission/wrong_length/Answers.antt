@@ -1,5 +1,4 @@
 use Rattle.rows.specs.Rows.{length_cases}
-use borrow.Author.Rules.{rules}
 use borrow.Author.Tests.{ne_eqb}
 use mathlib.Core.Bool.{or-false}
 use mathlib.Core.Path.{refl}

@@ -1,7 +1,6 @@
 use mathlib.Core.Path.{ap, ◌∙◌}
 use Prim.Native.Nat.{ℕ}
 use Rattle.datafiles.specs.Files.{end_of}
-use borrow.Author.Rules.{rules}
 use Rattle.datafiles.proofs.Files.end.Goals as goal
 
 pub returns : goal.returns

@@ -4,7 +4,6 @@ use Rattle.roles.specs.Roles.{size_of}
 use Rattle.wire.specs.Laws.{shows_none, shows_as}
 use native.Mathlib.Omega.{arith}
 use mathlib.Core.Path.{sym, ◌∙◌}
-use borrow.Author.Rules.{rules}
 use Rattle.datafiles.proofs.Files.show.Goals as goal
 
 pub returns-then-reply-lt-LONG : goal.returns-then-reply-lt-LONG

@@ -5,7 +5,6 @@ use Rattle.datafiles.specs.Laws.{no_data}
 use mathlib.Core.List.{List}
 use mathlib.Core.Path.{◌≡◌, sym, ap, ◌∙◌}
 use Prim.Native.Nat.{ℕ}
-use borrow.Author.Rules.{rules}
 use Rattle.datafiles.proofs.Files.write.Goals as goal
 
 abbrev files_of : List ℕ → List ℕ → List ℕ → Files

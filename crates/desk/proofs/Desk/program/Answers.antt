@@ -1,6 +1,5 @@
 use Rattle.desk.specs.Program.{program_desk}
 use mathlib.Core.Path.{refl}
-use borrow.Author.Rules.{rules}
 use Rattle.desk.proofs.Desk.program.Goals as goal
 
 pub returns : goal.returns

@@ -4,7 +4,6 @@ use Rattle.drafts.specs.Drafts.{unchanged}
 use Rattle.held.specs.declared.Draft.{Draft}
 use lib.Dec.{eqb}
 use mathlib.Core.Path.{ap, ◌∙◌}
-use borrow.Author.Rules.{rules}
 use Rattle.drafts.proofs.letters.put_spelt.Goals as goal
 
 pub returns-then-letter-digits : goal.returns-then-letter-digits

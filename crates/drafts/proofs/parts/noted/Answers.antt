@@ -1,7 +1,6 @@
 use Rattle.held.specs.Held.{noted}
 use Rattle.wire.specs.Laws.{part_over_zeros}
 use native.Mathlib.Omega.{arith}
-use borrow.Author.Rules.{rules}
 use Rattle.drafts.proofs.parts.noted.Goals as goal
 
 pub returns : goal.returns

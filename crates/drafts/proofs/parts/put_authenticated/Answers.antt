@@ -1,5 +1,4 @@
 use Rattle.drafts.proofs.Steps.{authenticated_by}
-use borrow.Author.Rules.{rules}
 use Rattle.drafts.proofs.parts.put_authenticated.Goals as goal
 
 pub returns : goal.returns

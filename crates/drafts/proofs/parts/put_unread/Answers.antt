@@ -1,7 +1,6 @@
 use Rattle.drafts.specs.Drafts.{unread}
 use Rattle.wire.specs.Laws.{shows_whole}
 use mathlib.Core.Path.{refl}
-use borrow.Author.Rules.{rules}
 use Rattle.drafts.proofs.parts.put_unread.Goals as goal
 
 pub returns : goal.returns

@@ -4,7 +4,6 @@ use lib.ListN.{replicate}
 use Prim.Native.Nat.{◌+◌, ◌-◌}
 use mathlib.Core.Path.{◌≡◌, ap, ◌∙◌}
 use native.Mathlib.Omega.{arith}
-use borrow.Author.Rules.{rules}
 use Rattle.drafts.proofs.parts.sixteen.Goals as goal
 
 pub returns : goal.returns

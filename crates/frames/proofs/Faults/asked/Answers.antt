@@ -1,6 +1,5 @@
 use Rattle.frames.specs.Faults.{faults_of}
 use Rattle.frames.specs.Frame.{wrong_size, wrong_class, wrong_parameters, wrong_frame}
-use borrow.Author.Rules.{rules}
 use Rattle.frames.proofs.Faults.asked.Goals as goal
 
 pub returns : goal.returns

@@ -3,7 +3,6 @@ use Rattle.told.specs.Told.{said_of}
 use Rattle.letters.specs.Letters.{inputs_in, handed}
 use Rattle.wire.specs.Laws.{part_over_zeros}
 use native.Mathlib.Omega.{arith}
-use borrow.Author.Rules.{rules}
 use Rattle.letters.proofs.bench.hand_in.Goals as goal
 
 pub returns : goal.returns

@@ -14,7 +14,6 @@ use Prim.Native.Nat.{ℕ, ◌*◌, ◌≤◌}
 use native.Mathlib.Omega.{arith}
 use mathlib.Core.List.{List}
 use mathlib.Core.Path.{◌≡◌, sym, ap, subst, ◌∙◌}
-use borrow.Author.Rules.{rules}
 use Rattle.letters.proofs.bench.say_lettered.Goals as goal
 use Rattle.letters.proofs.bench.say_lettered.Goals.{After-spell-n}
 

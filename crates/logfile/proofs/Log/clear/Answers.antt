@@ -3,7 +3,6 @@ use Rattle.logfile.specs.View.{put}
 use Rattle.logfile.specs.declared.Log.{Log}
 use mathlib.Core.Bool.{true}
 use mathlib.Core.Path.{ap}
-use borrow.Author.Rules.{rules}
 use Rattle.logfile.proofs.Log.clear.Goals as goal
 
 pub returns : goal.returns

@@ -1,7 +1,6 @@
 use Rattle.logfile.specs.Journal.{dropped, resting}
 use Rattle.logfile.specs.Ring.{ringed, laid_round}
 use Rattle.logfile.specs.View.{view, put}
-use borrow.Author.Rules.{rules}
 use Rattle.logfile.proofs.Log.emptied.Goals as goal
 
 pub returns : goal.returns

@@ -1,4 +1,3 @@
-use borrow.Author.Rules.{rules}
 use Rattle.logfile.proofs.Settling.{written_log}
 use Rattle.logfile.proofs.Log.write.Goals as goal
 

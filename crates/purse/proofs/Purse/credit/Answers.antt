@@ -1,4 +1,3 @@
-use borrow.Author.Rules.{rules}
 use Rattle.purse.specs.Purse.{credited}
 use Rattle.purse.specs.Guarded.{raise_in, credit_in}
 use Rattle.purse.proofs.Purse.credit.Goals as goal
