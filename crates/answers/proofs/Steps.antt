@@ -8,7 +8,7 @@ use lib.Dec.{ltb}
 use lib.ListN.{length, take, drop}
 use native.Mathlib.Omega.{arith}
 use Rattle.wire.specs.Bytes.{part, laid_in, Shows}
-use Rattle.wire.specs.Laws.{length_part, length_laid, shows_as}
+use Rattle.wire.proofs.Laws.{length_part, length_laid, shows_as}
 use Rattle.text.specs.Shown.{in_room, Adds}
 use Rattle.text.specs.Laws.{room_yes, room_no}
 use Rattle.text.specs.Adds.{adds_none, adds_room, adds_then, adds_behind}

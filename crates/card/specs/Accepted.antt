@@ -13,7 +13,7 @@ use Rattle.roles.specs.declared.Role.{Role}
 use Rattle.roles.specs.Roles.{long_size, size_of}
 use Rattle.datafiles.specs.declared.Files.{Files}
 use Rattle.datafiles.specs.Files as files
-use Rattle.datafiles.specs.Laws as datafiles
+use Rattle.datafiles.proofs.Laws as datafiles
 use Rattle.limits.specs.declared.Limits.{Limits}
 use Rattle.limits.specs.Limits.{within}
 use Rattle.purse.specs.declared.Purse.{Purse}
@@ -22,9 +22,9 @@ use Rattle.purse.specs.Purse.{credited, debited, rebooked}
 use Rattle.logfile.specs.declared.Log.{Log}
 use Rattle.logfile.specs.Journal as journal
 use Rattle.logfile.specs.View as log
-use Rattle.logfile.specs.Laws.{entries_view}
+use Rattle.logfile.proofs.Laws.{entries_view}
 use Rattle.logfile.specs.Fit.{Fit}
-use Rattle.logfile.specs.FitLaws.{shown_room}
+use Rattle.logfile.proofs.FitLaws.{shown_room}
 use Rattle.records.specs.Shown as records
 use Rattle.frames.specs.Frame.{offset_of, length_of, amount_of}
 use Rattle.columns.specs.Table.{read_data, get_value, credit, debit, limited_credit, read_records, get_file_settings, authenticate_first, authenticate_second, shows}

@@ -5,7 +5,7 @@ use Rattle.std.proofs.Math.Path.{ap}
 use Rattle.std.proofs.Math.ListN.{length, length-append}
 use Rattle.tables.specs.Choice.{pick}
 use Rattle.wire.specs.Bytes.{laid, laid_in, word, Shows}
-use Rattle.wire.specs.Laws.{laid_room, laid_further, length_laid, length_word, shows_front, shows_then}
+use Rattle.wire.proofs.Laws.{laid_room, laid_further, length_laid, length_word, shows_front, shows_then}
 use Rattle.channel.specs.declared.Channel.{Channel}
 use Rattle.channel.specs.Channel.{counter_of}
 use Rattle.sealing.specs.Sealing.{seal_of}

@@ -5,7 +5,7 @@ use Prim.Native.Nat.{ℕ, ◌+◌}
 use native.Mathlib.Omega.{arith}
 use lib.ListN.{length, drop_of_length-le, length-append}
 use Rattle.wire.specs.Bytes.{laid, laid_in}
-use Rattle.wire.specs.Laws.{laid_room, laid_behind, length_laid}
+use Rattle.wire.proofs.Laws.{laid_room, laid_behind, length_laid}
 
 laid_whole : (z s : List ℕ) → length s ≡ length z → laid z 0 s ≡ s
 unfolding laid

@@ -15,7 +15,7 @@ use Rattle.field.specs.Bytes.{sum, ◌⊞◌, zeros}
 use Rattle.field.specs.Laws.{◌∷≡◌, block_moved}
 use Rattle.fips197.specs.Keys.{key_expansion}
 use Rattle.fips197.specs.Cipher.{cipher}
-use Rattle.cmac.specs.Cmac.{first_of, second_of, subkey1, subkey2, padded, last_block, chain, cmac}
+use Rattle.cmac.specs.Cmac.{first_subkey, second_subkey, subkey1, subkey2, padded, last_block, chain, cmac}
 use Rattle.fips197.specs.Decrypts.{length_cipher}
 use Rattle.cmac.specs.declared.Held.{Held}
 use Rattle.cmac.specs.Fed.{put, holding, step, fed, closed}
@@ -106,11 +106,11 @@ module _ (w : List (List ℕ)) where
   fed_front : (p c : List ℕ) → length c ≡ 16 → length p ≤ 16 → fed w (holding c 0) p ≡ holding (onto c p) (length p)
   fed_front p c h k = let e : 0 + length p ≡ length p = omega arith in fed_part p c 0 h (omega arith) ∙ ap (holding (onto c p)) e
 
-  pub closed_short : (c : List ℕ) (n : ℕ) → n < 16 → closed w (holding c n) ≡ cipher w (put c n 0x80 ⊞ second_of w)
+  pub closed_short : (c : List ℕ) (n : ℕ) → n < 16 → closed w (holding c n) ≡ cipher w (put c n 0x80 ⊞ second_subkey w)
   unfolding closed
   closed_short c n h = picked _ _ (lt-ltb n 16 h)
 
-  pub closed_full : (c : List ℕ) (n : ℕ) → 16 ≤ n → closed w (holding c n) ≡ cipher w (c ⊞ first_of w)
+  pub closed_full : (c : List ℕ) (n : ℕ) → 16 ≤ n → closed w (holding c n) ≡ cipher w (c ⊞ first_subkey w)
   unfolding closed
   closed_full c n h = passed _ _ (le-ltb n 16 h)
 

@@ -16,17 +16,17 @@ unfoldable pub doubled : List ℕ → List ℕ
 doubled l = tabled 15 (shifted l) ++ ((get_or l 15 0 * 2 % 256 ⊕ only_if (get_or l 0 0 / 128) 0x87) ∷ [])
 
 -- 6.1: the subkeys, of the round keys
-abbrev pub first_of : List (List ℕ) → List ℕ
-first_of w = doubled (cipher w zeros)
+abbrev pub first_subkey : List (List ℕ) → List ℕ
+first_subkey w = doubled (cipher w zeros)
 
-abbrev pub second_of : List (List ℕ) → List ℕ
-second_of w = doubled (first_of w)
+abbrev pub second_subkey : List (List ℕ) → List ℕ
+second_subkey w = doubled (first_subkey w)
 
 unfoldable pub subkey1 : List ℕ → List ℕ
-subkey1 k = first_of (key_expansion k)
+subkey1 k = first_subkey (key_expansion k)
 
 unfoldable pub subkey2 : List ℕ → List ℕ
-subkey2 k = second_of (key_expansion k)
+subkey2 k = second_subkey (key_expansion k)
 
 -- 10..0 behind a part of a block
 abbrev pub padded : List ℕ → List ℕ

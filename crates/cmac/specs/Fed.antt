@@ -4,7 +4,7 @@ use Rattle.tables.specs.Choice.{pick}
 use Rattle.field.specs.Field.{◌⊕◌}
 use Rattle.field.specs.Bytes.{◌⊞◌}
 use Rattle.fips197.specs.Cipher.{cipher}
-use Rattle.cmac.specs.Cmac.{first_of, second_of}
+use Rattle.cmac.specs.Cmac.{first_subkey, second_subkey}
 use Rattle.cmac.specs.declared.Held.{Held}
 
 -- a byte added to a block at a place
@@ -23,4 +23,4 @@ fed w s (a ∷ m) = fed w (step w s a) m
 
 unfoldable pub closed : List (List ℕ) → Held → List ℕ
 closed w s =
-    pick (ltb s.held 16) (cipher w (put s.block s.held 0x80 ⊞ second_of w)) (cipher w (s.block ⊞ first_of w))
+    pick (ltb s.held 16) (cipher w (put s.block s.held 0x80 ⊞ second_subkey w)) (cipher w (s.block ⊞ first_subkey w))

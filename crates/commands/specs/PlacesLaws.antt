@@ -4,7 +4,7 @@ use Rattle.std.proofs.Math.Path.{refl}
 use Rattle.purse.specs.declared.Purse.{Purse}
 use Rattle.logfile.specs.declared.Log.{Log}
 use Rattle.logfile.specs.View as log
-use Rattle.logfile.specs.Laws.{entries_view}
+use Rattle.logfile.proofs.Laws.{entries_view}
 use Rattle.access.specs.declared.Access.{Access}
 use Rattle.access.specs.declared.Session.{Session}
 use Rattle.keys.specs.declared.Keys.{Keys}

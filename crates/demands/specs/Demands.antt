@@ -1,4 +1,4 @@
--- The three demands, stated: each field is a sentence. The theorems demand1, demand2, standing, demand3, equal-replies and in-code prove them.
+-- The three demands, stated: each field is a sentence. The theorems demand1, demand2, standing, demand3, equal_replies and in_code prove them.
 use Rattle.std.specs.Prelude.{ℕ, ◌+◌, ◌≤◌, ◌<◌, Bool, true, false, ◌||◌, List, [], ◌∷◌, ◌++◌, ◌↔◌, ◌⊎◌, ◌≡◌, eqb, ℤ, length}
 use Rattle.tables.specs.Reasons.{Reason, NoReason}
 use Rattle.wire.specs.Bytes.{laid, word}

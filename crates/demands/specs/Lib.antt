@@ -10,8 +10,5 @@ pub mod Former
 pub mod Ring
 pub mod Numbers
 pub mod Examples
-pub mod Laws
-pub mod Proofs
 pub mod Doors
-pub mod Unseen
 pub mod Anew

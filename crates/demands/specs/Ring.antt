@@ -1,5 +1,5 @@
 -- What the ring promises: the former log's replies, slot bytes stored by a commit with a new entry alone, and slots that wear alike.
--- The theorems equal-forms, slots-kept and worn prove it.
+-- The theorems equal_forms, slots_kept and worn prove it.
 use Rattle.std.specs.Prelude.{ℕ, ◌+◌, ◌-◌, ◌/◌, ◌≤◌, ◌<◌, Bool, true, false, not, ◌&&◌, List, [], ◌≡◌, eqb, ℤ, get_or}
 use Rattle.tables.specs.Choice.{pick}
 use Rattle.logfile.specs.Journal as journal

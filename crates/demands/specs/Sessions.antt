@@ -1,4 +1,4 @@
--- Sessions, stated beside the demands: each field is a sentence. The theorems sealed-as-plain, wrong-mac and let-in prove them.
+-- Sessions, stated beside the demands: each field is a sentence. The theorems sealed_as_plain, wrong_mac_lem and let_in prove them.
 use Rattle.std.specs.Prelude.{ℕ, ◌+◌, ◌%◌, ◌≤◌, true, false, List, ◌∷◌, ◌++◌, ◌↔◌, ◌≡◌, length, take}
 use Rattle.tables.specs.Reasons.{NoReason}
 use Rattle.wire.specs.Bytes.{word}

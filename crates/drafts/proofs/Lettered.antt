@@ -11,7 +11,7 @@ use Rattle.tables.specs.Choice.{pick, picked, passed, order, and_yes, and_right}
 use Rattle.wire.specs.Bytes.{part, Shows}
 use Rattle.text.specs.Hex.{is_hex, spelt, leading}
 use Rattle.text.specs.Laws.{leading_all, leading_most, hex_test}
-use Rattle.lines.specs.Laws.{spelt_there, said_by}
+use Rattle.lines.proofs.Laws.{spelt_there, said_by}
 use Rattle.held.specs.declared.Draft.{Draft}
 use Rattle.held.specs.Held.{over, counted, sent, noted}
 use Rattle.drafts.specs.Drafts.{unread, unchanged, authenticated, maced, lettered_by, lettered, drafted}

@@ -8,7 +8,7 @@ use native.Mathlib.Nat.{zero-add}
 use native.Mathlib.Omega.{arith}
 use Rattle.tables.specs.Choice.{pick, picked, passed, and_both, and_left, and_right}
 use Rattle.wire.specs.Bytes.{part, laid_in, Shows}
-use Rattle.wire.specs.Laws.{length_part, length_laid, laid_room, shows_as, shows_there}
+use Rattle.wire.proofs.Laws.{length_part, length_laid, laid_room, shows_as, shows_there}
 use Rattle.text.specs.Hex.{in_digits}
 use Rattle.text.specs.Shown.{digits_in, Adds}
 use Rattle.text.specs.Laws.{length_digits, digits_shown}

@@ -2,7 +2,7 @@
 use Rattle.std.specs.Prelude.{ℕ, ◌-◌, min, max, Bool, true, false, List, ◌≡◌, refl, ltb, length}
 use Rattle.std.proofs.Common.{ltb-true, ltb-false, arith}
 use Rattle.wire.specs.Bytes.{part}
-use Rattle.wire.specs.Laws.{length_part}
+use Rattle.wire.proofs.Laws.{length_part}
 use Rattle.frames.specs.Frame.{data_of}
 
 pub data_between : (f : List ℕ) {a e : ℕ} → a ≡ min 5 (length f) → e ≡ max (min 5 (length f)) (length f - 1) → part f a e ≡ data_of f

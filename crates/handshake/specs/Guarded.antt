@@ -2,7 +2,7 @@
 use Rattle.std.specs.Prelude.{ℕ, List, ◌≡◌, length, replicate}
 use Rattle.std.proofs.Common.{ap, ◌∙◌, arith}
 use Rattle.wire.specs.Bytes.{laid_in}
-use Rattle.wire.specs.Laws.{laid_room, laid_all}
+use Rattle.wire.proofs.Laws.{laid_room, laid_all}
 use Rattle.derivation.specs.Derivation.{mac_key}
 use Rattle.handshake.specs.Handshake.{brought_a, second_reply}
 

@@ -10,7 +10,7 @@ use Rattle.kinds.specs.declared.Kind.{Kind}
 use Rattle.kinds.specs.declared.Kind.TheVariants.{Order, NoSession, Session, Room, HandedIn, Opening, FileBytes, Books, Count, Unread}
 use Rattle.kinds.specs.Kinds.{kind_of}
 use Rattle.kinds.specs.Laws.{Known, known}
-use Rattle.lines.specs.Laws.{said_by}
+use Rattle.lines.proofs.Laws.{said_by}
 use Rattle.desk.specs.declared.Desk.{Desk}
 use Rattle.letters.specs.Letters.{lettered_by, lettered}
 

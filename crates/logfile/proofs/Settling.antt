@@ -7,13 +7,13 @@ use lib.ListN.{length, length-take}
 use native.Mathlib.Omega.{arith}
 use Rattle.tables.specs.Choice.{pick, picked, passed}
 use Rattle.wire.specs.Bytes.{laid_in}
-use Rattle.wire.specs.Laws.{laid_room}
+use Rattle.wire.proofs.Laws.{laid_room}
 use Rattle.logfile.specs.declared.Log.{Log}
 use Rattle.logfile.specs.Journal.{Journal, blank, fresh_or, some, stored, written, pushed, resting, settled, dropped}
 use Rattle.logfile.specs.Ring.{slot_at, newer, laid_round}
 use Rattle.logfile.specs.View.{view, put, put_stored, committed}
-use Rattle.logfile.specs.Entries.{length_ringed, take_ringed, laid_newer}
-use Rattle.logfile.specs.Laws.{put_same}
+use Rattle.logfile.proofs.Entries.{length_ringed, take_ringed, laid_newer}
+use Rattle.logfile.proofs.Laws.{put_same}
 
 pub settled_clears : (l : Log) → l.clears ≡ true → settled (view l) ≡ resting []
 unfolding settled

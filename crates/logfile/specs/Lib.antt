@@ -2,9 +2,7 @@ pub mod Journal
 pub mod Ring
 pub mod View
 pub mod Fit
-pub mod Entries
 pub mod Laws
-pub mod FitLaws
 pub mod Slots
 pub mod Wear
 pub mod Former

@@ -10,12 +10,12 @@ use native.Mathlib.Numerals.{add-one}
 use native.Mathlib.Omega.{arith}
 use Rattle.tables.specs.Choice.{pick, any, picked, passed, or_no, or_none, or_left, or_right}
 use Rattle.wire.specs.Bytes.{part, laid, laid_in, outside_of, Shows}
-use Rattle.wire.specs.Laws.{laid_none, laid_room, laid_behind, length_laid}
+use Rattle.wire.proofs.Laws.{laid_none, laid_room, laid_behind, length_laid}
 use Rattle.logfile.specs.declared.Log.{Log}
 use Rattle.logfile.specs.Journal.{joined, shown}
 use Rattle.logfile.specs.Ring.{slot_at, slot, older, ringed}
 use Rattle.logfile.specs.View.{view}
-use Rattle.logfile.specs.Entries.{length_slot, length_ringed, ringed_range}
+use Rattle.logfile.proofs.Entries.{length_slot, length_ringed, ringed_range}
 use Rattle.records.specs.Shown.{oldest_first, shown_in}
 
 -- ---- the loop

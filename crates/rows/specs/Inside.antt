@@ -6,7 +6,7 @@ use Rattle.std.proofs.Common.{arith}
 use borrow.Author.Tests.{not-false, eqb-true, ltb-false, le-leb}
 use Rattle.tables.specs.Choice.{or_no, none}
 use Rattle.wire.specs.Bytes.{outside_of}
-use Rattle.wire.specs.Laws.{length_part}
+use Rattle.wire.proofs.Laws.{length_part}
 use Rattle.roles.specs.declared.Role.{Role}
 use Rattle.roles.specs.Roles.{is_data, size_of}
 use Rattle.logfile.specs.Journal.{entry_size}

@@ -14,9 +14,12 @@ use Rattle.text.specs.Hex.{in_digits}
 use Rattle.text.specs.Laws.{length_digits}
 use Rattle.lines.specs.Lines.{line_length, lines_after, Said, went, Goes}
 use Rattle.lines.specs.Frames.{frame_in}
-use Rattle.lines.specs.Laws.{Ends, line_ends}
-use Rattle.lines.specs.FrameLaws.{Frame, frame_line, no_frame}
-use Rattle.lines.specs.Sofar.{Sofar, sofar_full, sofar_next, sofar_as}
+use Rattle.lines.specs.Laws.{Ends}
+use Rattle.lines.proofs.Laws.{line_ends}
+use Rattle.lines.specs.FrameLaws.{Frame}
+use Rattle.lines.proofs.FrameLaws.{frame_line, no_frame}
+use Rattle.lines.specs.Sofar.{Sofar}
+use Rattle.lines.proofs.Sofar.{sofar_full, sofar_next, sofar_as}
 use Rattle.answers.specs.Answers.{numbered, reply_text, reply_line}
 use Rattle.card.specs.declared.Reply.{Reply}
 use Rattle.card.specs.Outcome.{Outcome, reply_of}

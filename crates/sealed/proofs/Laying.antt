@@ -7,7 +7,7 @@ use lib.Seq.{length-take-le}
 use native.Mathlib.Nat.{zero-add}
 use native.Mathlib.Omega.{arith}
 use Rattle.wire.specs.Bytes.{part, laid_in, Shows}
-use Rattle.wire.specs.Laws.{laid_room, length_laid, shows_as}
+use Rattle.wire.proofs.Laws.{laid_room, length_laid, shows_as}
 use Rattle.text.specs.Shown.{Adds}
 use Rattle.text.specs.Adds.{adds_then}
 use Rattle.frames.specs.Frame.{ins_of, data_of}

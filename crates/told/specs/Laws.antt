@@ -5,7 +5,7 @@ use Rattle.std.proofs.lemmas.List.{take-append-le}
 use Rattle.std.proofs.Math.Nat.{sub-zero}
 use Rattle.tables.specs.Choice.{pick, pick_both}
 use Rattle.wire.specs.Bytes.{part, word}
-use Rattle.wire.specs.Laws.{length_part, front_laid, front_fits}
+use Rattle.wire.proofs.Laws.{length_part, front_laid, front_fits}
 use Rattle.purse.specs.declared.Purse.{Purse}
 use Rattle.logfile.specs.declared.Log.{Log}
 use Rattle.chains.specs.declared.Chain.{Chain}

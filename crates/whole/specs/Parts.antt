@@ -1,9 +1,9 @@
 -- A whole number z as two naturals: `above z` is how far it lies above 0, and `below z` how far below 0 (one of them is 0), so z is above z - below z.
 -- Orders, sums, differences and ranges of whole numbers are linear facts of these naturals, which `omega` reads:
---     le_z_yes, leZ-no         the test le_z a b, from above a + below b and above b + below a
---     test-yes, test-no       the order of these two, from the test
+--     le_z_yes, le_z_no         the test le_z a b, from above a + below b and above b + below a
+--     test_yes, test_no       the order of these two, from the test
 --     sum, difference         the parts of a +ℤ b and a -ℤ b
---     neg-above, neg-below    the parts of neg_ℤ b
+--     neg_above, neg_below    the parts of neg_ℤ b
 --     range32, in32, in64     what SFits says, and SFits from it
 use Rattle.std.specs.Prelude.{◌≡◌, refl, Bool, true, false, not, cond, ℕ, zero, suc, ◌+◌, ◌-◌, ◌≤◌, ◌<◌, T, ltb, ℤ, pos, negsuc, neg_ℤ, ◌+ℤ◌, ◌-ℤ◌}
 use Rattle.std.proofs.Common.{sym, subst, arith, ltb→lt, nltb→le, le-leb, leb-true, leb-false, SFits}

@@ -1,5 +1,5 @@
 use Rattle.text.specs.Laws.{room_yes, room_no}
-use Rattle.wire.specs.Laws.{shows_as, shows_none, shows_whole}
+use Rattle.wire.proofs.Laws.{shows_as, shows_none, shows_whole}
 use Rattle.answers.specs.Answers.{numbered}
 use Rattle.answers.specs.Laws.{length_numbered}
 use lib.ListN.{length}

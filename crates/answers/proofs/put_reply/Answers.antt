@@ -1,6 +1,6 @@
 use Rattle.answers.specs.Answers.{reply_text}
 use Rattle.text.specs.Shown.{in_room, digits_in}
-use Rattle.wire.specs.Laws.{shows_as}
+use Rattle.wire.proofs.Laws.{shows_as}
 use Rattle.tables.specs.Choice.{picked, passed}
 use borrow.Author.Tests.{eq-eqb, ne_eqb}
 use lib.ListN.{length}

@@ -1,7 +1,7 @@
 use native.Mathlib.Nat.{zero-add}
 use Rattle.books.specs.Books.{books_text, books_in}
 use Rattle.text.specs.Adds.{adds_then}
-use Rattle.wire.specs.Laws.{shows_as, shows_none}
+use Rattle.wire.proofs.Laws.{shows_as, shows_none}
 use Rattle.tables.specs.Choice.{picked, passed}
 use borrow.Author.Tests.{lt-ltb, le-ltb}
 use mathlib.Core.Path.{sym}

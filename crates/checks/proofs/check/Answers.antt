@@ -1,4 +1,4 @@
-use Rattle.checks.specs.Order.{frame_refused, frame_passed}
+use Rattle.checks.proofs.Order.{frame_refused, frame_passed}
 use Rattle.checks.proofs.check.Goals as goal
 
 pub returns-then-s : goal.returns-then-s

@@ -1,4 +1,4 @@
-use Rattle.lines.specs.Laws.{goes_within}
+use Rattle.lines.proofs.Laws.{goes_within}
 use Rattle.script.specs.Lines.{line_said}
 use borrow.Author.Rules.{rules}
 use Rattle.console.proofs.serve.Goals as goal

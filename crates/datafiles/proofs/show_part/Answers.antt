@@ -1,4 +1,4 @@
-use Rattle.wire.specs.Laws.{shows_part}
+use Rattle.wire.proofs.Laws.{shows_part}
 use Rattle.datafiles.proofs.show_part.Goals as goal
 
 pub returns : goal.returns

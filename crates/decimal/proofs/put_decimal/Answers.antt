@@ -1,4 +1,4 @@
-use Rattle.wire.specs.Laws.{shows_as}
+use Rattle.wire.proofs.Laws.{shows_as}
 use mathlib.Core.Path.{ap}
 use lib.ListN.{length}
 use Rattle.decimal.proofs.Steps.{digits_left}

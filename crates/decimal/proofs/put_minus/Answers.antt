@@ -1,4 +1,4 @@
-use Rattle.wire.specs.Laws.{shows_as}
+use Rattle.wire.proofs.Laws.{shows_as}
 use mathlib.Core.Path.{ap}
 use mathlib.Core.List.{◌∷◌}
 use lib.ListN.{length}

@@ -1,5 +1,5 @@
 use Rattle.text.specs.Laws.{room_yes, room_no}
-use Rattle.wire.specs.Laws.{laid_room, shows_as, shows_none}
+use Rattle.wire.proofs.Laws.{laid_room, shows_as, shows_none}
 use lib.ListN.{length}
 use mathlib.Core.List.{[]}
 use mathlib.Core.Path.{refl, sym, ◌∙◌}

@@ -1,6 +1,6 @@
 use Rattle.text.specs.Laws.{room_yes, room_no}
 use Rattle.decimal.proofs.Steps.{front_laid}
-use Rattle.wire.specs.Laws.{shows_as, shows_none}
+use Rattle.wire.proofs.Laws.{shows_as, shows_none}
 use lib.ListN.{length, length-set}
 use mathlib.Core.Path.{sym, ◌∙◌}
 use native.Mathlib.Omega.{arith}

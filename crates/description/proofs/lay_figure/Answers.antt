@@ -1,6 +1,6 @@
 use Rattle.description.specs.Description.{figure}
 use Rattle.wire.specs.Bytes.{four}
-use Rattle.wire.specs.Laws.{laid_room}
+use Rattle.wire.proofs.Laws.{laid_room}
 use lib.Seq.{length-take-le}
 use native.Mathlib.Nat.{sub-zero}
 use native.Mathlib.Omega.{arith}

@@ -1,4 +1,4 @@
-use Rattle.wire.specs.Laws.{shows_then, shows_whole}
+use Rattle.wire.proofs.Laws.{shows_then, shows_whole}
 use native.Mathlib.Omega.{arith}
 use mathlib.Core.Path.{refl}
 use Rattle.description.proofs.lay_head.Goals as goal

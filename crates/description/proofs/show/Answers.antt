@@ -1,6 +1,6 @@
 use Rattle.description.specs.Description.{described, described_in}
 use Rattle.roles.specs.Laws.{size_most}
-use Rattle.wire.specs.Laws.{shows_as, shows_none, shows_then}
+use Rattle.wire.proofs.Laws.{shows_as, shows_none, shows_then}
 use Rattle.tables.specs.Choice.{hit, skip}
 use borrow.Author.Tests.{lt-ltb, le-ltb}
 use native.Mathlib.Omega.{arith}

@@ -1,4 +1,4 @@
-use Rattle.wire.specs.Laws.{shows_then}
+use Rattle.wire.proofs.Laws.{shows_then}
 use mir.Facts.{to_z-of_z}
 use mir.Val.{SFits}
 use mir.Syntax.{w32}

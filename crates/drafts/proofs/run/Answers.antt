@@ -1,7 +1,8 @@
 use Rattle.drafts.specs.Drafts.{drafted}
-use Rattle.lines.specs.Laws.{Ends, line_ends}
-use Rattle.wire.specs.Laws.{shows_fits, shows_there}
-use Rattle.lines.specs.Sofar.{sofar_start, sofar_length, sofar_end, sofar_part, sofar_full, sofar_next, sofar_as}
+use Rattle.lines.specs.Laws.{Ends}
+use Rattle.lines.proofs.Laws.{line_ends}
+use Rattle.wire.proofs.Laws.{shows_fits, shows_there}
+use Rattle.lines.proofs.Sofar.{sofar_start, sofar_length, sofar_end, sofar_part, sofar_full, sofar_next, sofar_as}
 use Rattle.text.specs.Shown.{in_room, Adds}
 use Rattle.wire.specs.Bytes.{part}
 use borrow.Author.Rules.{rules}

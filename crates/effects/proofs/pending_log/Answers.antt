@@ -1,5 +1,5 @@
 use Rattle.effects.specs.Effects.{journal_after}
-use Rattle.logfile.specs.Laws.{put_view}
+use Rattle.logfile.proofs.Laws.{put_view}
 use Rattle.logfile.specs.View.{put}
 use Rattle.tables.specs.Choice.{order}
 use mathlib.Core.Path.{sym, ap, ◌∙◌}

@@ -2,7 +2,7 @@ use Rattle.notices.specs.Notices.{notice_text}
 use Rattle.told.specs.Told.{said_of}
 use Rattle.letters.specs.Letters.{unread, other_said, lettered}
 use Rattle.wire.specs.Bytes.{part}
-use Rattle.wire.specs.Laws.{length_part}
+use Rattle.wire.proofs.Laws.{length_part}
 use native.Mathlib.Omega.{arith}
 use Rattle.tables.specs.Choice.{picked, passed}
 use borrow.Author.Tests.{lt-ltb, le-ltb, eq-eqb, ne_eqb}

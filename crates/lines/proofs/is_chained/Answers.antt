@@ -1,4 +1,4 @@
-use Rattle.lines.specs.FrameLaws.{chained_odd, chained_not}
+use Rattle.lines.proofs.FrameLaws.{chained_odd, chained_not}
 use native.Mathlib.Omega.{arith}
 use Rattle.lines.proofs.is_chained.Goals as goal
 

@@ -1,4 +1,4 @@
-use Rattle.lines.specs.Laws.{length_end, length_on, length_none}
+use Rattle.lines.proofs.Laws.{length_end, length_on, length_none}
 use Prim.Native.Nat.{◌+◌}
 use mathlib.Core.Path.{sym, ap, ◌∙◌}
 use native.Mathlib.Nat.{add-zero}

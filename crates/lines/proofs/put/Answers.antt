@@ -1,4 +1,4 @@
-use Rattle.lines.specs.Laws.{put_short, put_all}
+use Rattle.lines.proofs.Laws.{put_short, put_all}
 use native.Mathlib.Omega.{arith}
 use Rattle.lines.proofs.put.Goals as goal
 

@@ -1,4 +1,4 @@
-use Rattle.lines.specs.FrameLaws.{size_most, frame_there, frame_none, frame_past, frame_chained, tried_past, tried_chained, tried_all}
+use Rattle.lines.proofs.FrameLaws.{size_most, frame_there, frame_none, frame_past, frame_chained, tried_past, tried_chained, tried_all}
 use Rattle.tables.specs.Choice.{and_yes}
 use Rattle.text.specs.Hex.{leading}
 use Rattle.lines.specs.Frames.{tried}

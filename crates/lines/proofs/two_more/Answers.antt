@@ -1,4 +1,4 @@
-use Rattle.lines.specs.Laws.{two_on}
+use Rattle.lines.proofs.Laws.{two_on}
 use Rattle.lines.proofs.two_more.Goals as goal
 
 pub returns : goal.returns

@@ -1,4 +1,4 @@
-use Rattle.wire.specs.Laws.{shows_fits, shows_there}
+use Rattle.wire.proofs.Laws.{shows_fits, shows_there}
 use native.Mathlib.Omega.{arith}
 use Rattle.notices.proofs.put.Goals as goal
 

@@ -1,7 +1,7 @@
 use Rattle.answers.specs.Answers.{refusal_text}
 use Rattle.text.specs.Shown.{in_room}
 use Rattle.text.specs.Laws.{room_yes}
-use Rattle.wire.specs.Laws.{shows_as, shows_none}
+use Rattle.wire.proofs.Laws.{shows_as, shows_none}
 use Rattle.tables.specs.Choice.{picked, passed}
 use borrow.Author.Tests.{eq-eqb, ne_eqb}
 use lib.ListN.{length}

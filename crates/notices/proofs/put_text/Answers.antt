@@ -4,7 +4,7 @@ use Rattle.answers.specs.Answers.{numbered, refusal_text}
 use Rattle.answers.specs.Laws.{length_numbered, length_refusal}
 use Rattle.books.specs.Books.{books_in}
 use Rattle.text.specs.Laws.{room_yes, digits_shown}
-use Rattle.wire.specs.Laws.{shows_as, shows_whole}
+use Rattle.wire.proofs.Laws.{shows_as, shows_whole}
 use Rattle.tables.specs.Choice.{passed}
 use borrow.Author.Tests.{le-ltb}
 use lib.ListN.{length}

@@ -3,7 +3,7 @@ use mir.Val.{SFits}
 use mir.Syntax.{w32}
 use Rattle.replies.specs.Guarded.{shown_in}
 use Rattle.datafiles.specs.Files as files
-use Rattle.wire.specs.Laws.{shows_as, shows_none}
+use Rattle.wire.proofs.Laws.{shows_as, shows_none}
 use Rattle.tables.specs.Choice.{order}
 use borrow.Author.Rules.{rules}
 use Rattle.replies.proofs.show.Goals as goal

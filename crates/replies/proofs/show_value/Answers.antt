@@ -1,5 +1,5 @@
 use Rattle.replies.specs.Guarded.{value_in}
-use Rattle.wire.specs.Laws.{shows_as, shows_none, shows_whole}
+use Rattle.wire.proofs.Laws.{shows_as, shows_none, shows_whole}
 use Rattle.wire.specs.Bytes.{four}
 use Rattle.tables.specs.Choice.{choice}
 use mir.Facts.{to_z-of_z}

@@ -1,6 +1,6 @@
 use Rattle.script.specs.Lines.{commanded_on, line_said}
 use Rattle.script.proofs.Steps.{front_holds, own_state, written, line, played_full, played_next, ends, told_full, told_next}
-use Rattle.lines.specs.Sofar.{sofar_start, sofar_length, sofar_end, sofar_part, sofar_as}
+use Rattle.lines.proofs.Sofar.{sofar_start, sofar_length, sofar_end, sofar_part, sofar_as}
 use Rattle.told.specs.Told.{after_event}
 use Rattle.told.specs.Laws.{Plays, plays_lent, reply_bytes}
 use Rattle.desk.specs.Laws.{lent_most}
@@ -8,7 +8,7 @@ use Rattle.card.specs.Events.{commanded}
 use Rattle.desk.specs.declared.Desk.{Desk}
 use Rattle.card.specs.declared.Reply.{Reply}
 use Rattle.wire.specs.Bytes.{part}
-use Rattle.wire.specs.Laws.{length_part}
+use Rattle.wire.proofs.Laws.{length_part}
 use borrow.Author.Rules.{rules}
 use lib.ListN.{length, drop}
 use lib.Seq.{length_front}

@@ -1,7 +1,7 @@
 use Rattle.frames.specs.Laws.{length_data}
 use Rattle.till.specs.Laws.{in_short, in_long, in_full}
 use Rattle.sealed.proofs.Laying.{sealed_shown}
-use Rattle.wire.specs.Laws.{shows_as, shows_none}
+use Rattle.wire.proofs.Laws.{shows_as, shows_none}
 use lib.ListN.{length}
 use native.Mathlib.Omega.{arith}
 use mathlib.Core.Path.{sym, ap}

@@ -1,4 +1,4 @@
-use Rattle.standing.specs.Parts.{by_parts}
+use Rattle.standing.proofs.Parts.{by_parts}
 use Rattle.standing.proofs.breaks.Goals as goal
 
 pub returns : goal.returns

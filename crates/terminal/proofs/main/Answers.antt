@@ -1,4 +1,4 @@
-use Rattle.lines.specs.Laws.{goes_within}
+use Rattle.lines.proofs.Laws.{goes_within}
 use Rattle.drafts.specs.Drafts.{drafted}
 use borrow.Author.Rules.{rules}
 use Rattle.terminal.proofs.main.Goals as goal

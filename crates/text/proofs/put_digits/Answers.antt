@@ -1,4 +1,4 @@
-use Rattle.wire.specs.Laws.{shows_as, shows_none}
+use Rattle.wire.proofs.Laws.{shows_as, shows_none}
 use mathlib.Core.Path.{sym}
 use lib.ListN.{length}
 use mathlib.Core.List.{[]}

@@ -1,4 +1,4 @@
-use Rattle.wire.specs.Laws.{laid_room, laid_short}
+use Rattle.wire.proofs.Laws.{laid_room, laid_short}
 use native.Mathlib.Omega.{arith}
 use mathlib.Core.Path.{sym, ◌∙◌}
 use Rattle.wire.proofs.lay.Goals as goal

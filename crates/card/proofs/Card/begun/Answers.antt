@@ -1,5 +1,5 @@
 use Rattle.effects.specs.Effects.{stored_after}
-use Rattle.card.specs.Laws.{part_answers, on_begun}
+use Rattle.card.proofs.Laws.{part_answers, on_begun}
 use Rattle.card.specs.Events.{shown, accepted_status}
 use Rattle.card.specs.View.{view, on_channel}
 use Rattle.tables.specs.Choice.{pick}

@@ -1,4 +1,4 @@
-use Rattle.card.specs.Laws.{session_unknown, session_broken, session_changes}
+use Rattle.card.proofs.Laws.{session_unknown, session_broken, session_changes}
 use Rattle.card.specs.View.{on_channel}
 use Rattle.channel.specs.Channel.{bare}
 use mathlib.Core.Bool.{not}

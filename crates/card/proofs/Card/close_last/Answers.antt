@@ -1,4 +1,4 @@
-use Rattle.card.specs.Laws.{closes, closes_not}
+use Rattle.card.proofs.Laws.{closes, closes_not}
 use Rattle.card.proofs.Card.close_last.Goals as goal
 
 pub returns-then-last : goal.returns-then-last

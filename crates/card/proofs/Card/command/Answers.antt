@@ -3,9 +3,9 @@ use Rattle.logfile.specs.declared.Stored.{Stored}
 use Rattle.card.specs.declared.Card.{Card}
 use Rattle.card.specs.Events.{reply_room}
 use Rattle.card.specs.Accepted.{Granted}
-use Rattle.card.specs.Laws.{bench_answers, answered_as, no_bench, command_bench, command_refused, command_granted, command_accepts, command_part, command_quiet, begins_plain, opens_plain, opens_long, moved, wrote, write_stores_none}
+use Rattle.card.proofs.Laws.{bench_answers, answered_as, no_bench, command_bench, command_refused, command_granted, command_accepts, command_part, command_quiet, begins_plain, opens_plain, opens_long, moved, wrote, write_stores_none}
 use Rattle.card.specs.Sealing.{Sealed, sealed_plain}
-use Rattle.checks.specs.Order.{status_told, maced_told, role_told}
+use Rattle.checks.proofs.Order.{status_told, maced_told, role_told}
 use Rattle.card.specs.View.{view, broken}
 use Rattle.channel.specs.declared.Inputs.{Inputs}
 use Rattle.rows.specs.Rows.{ok, maced_in, status_of}

@@ -1,4 +1,4 @@
-use Rattle.card.specs.Laws.{delivers}
+use Rattle.card.proofs.Laws.{delivers}
 use mathlib.Core.Path.{refl}
 use Rattle.card.proofs.Card.deliver.Goals as goal
 

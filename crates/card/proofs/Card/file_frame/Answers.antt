@@ -1,4 +1,4 @@
-use Rattle.card.specs.Laws.{bench_answers, answered_as, no_bench, bytes_bench, bytes_answered, bytes_refused}
+use Rattle.card.proofs.Laws.{bench_answers, answered_as, no_bench, bytes_bench, bytes_answered, bytes_refused}
 use Rattle.card.specs.View.{broken}
 use Rattle.card.specs.Events.{reply_room}
 use lib.ListN.{length}

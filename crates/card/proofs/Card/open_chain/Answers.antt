@@ -1,7 +1,7 @@
-use Rattle.card.specs.Laws.{bench_answers, answered_as, no_bench, opening_bench, opening_refused, opening_taken}
+use Rattle.card.proofs.Laws.{bench_answers, answered_as, no_bench, opening_bench, opening_refused, opening_taken}
 use Rattle.card.specs.View.{view, broken}
 use Rattle.card.specs.Events.{reply_room}
-use Rattle.checks.specs.Order.{status_told, role_told}
+use Rattle.checks.proofs.Order.{status_told, role_told}
 use lib.ListN.{length}
 use Prim.Native.Nat.{◌≤◌}
 use mathlib.Core.Bool.{false}

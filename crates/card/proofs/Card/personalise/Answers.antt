@@ -1,5 +1,5 @@
 use mathlib.Core.Path.{ap, ◌∙◌}
-use Rattle.card.specs.Laws.{order_refused, order_taken}
+use Rattle.card.proofs.Laws.{order_refused, order_taken}
 use Rattle.standing.specs.Rules.{order_refusal}
 use Rattle.card.specs.Events.{issued}
 use mir.Facts.{to_z-of_z}

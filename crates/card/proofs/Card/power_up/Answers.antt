@@ -1,4 +1,4 @@
-use Rattle.card.specs.Laws.{power_broken, power_ends}
+use Rattle.card.proofs.Laws.{power_broken, power_ends}
 use mathlib.Core.Path.{sym, ◌∙◌}
 use Rattle.card.proofs.Card.power_up.Goals as goal
 

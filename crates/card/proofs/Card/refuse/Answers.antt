@@ -1,4 +1,4 @@
-use Rattle.card.specs.Laws.{refused_answers}
+use Rattle.card.proofs.Laws.{refused_answers}
 use Rattle.card.proofs.Card.refuse.Goals as goal
 
 pub returns : goal.returns

@@ -1,8 +1,8 @@
-use Rattle.card.specs.Laws.{accepted_shows, shown_answers}
+use Rattle.card.proofs.Laws.{accepted_shows, shown_answers}
 use Rattle.card.specs.View.{view, on_channel}
 use Rattle.card.specs.Accepted.{base_shown}
 use Rattle.wire.specs.Bytes.{Shows}
-use Rattle.wire.specs.Laws.{shows_length}
+use Rattle.wire.proofs.Laws.{shows_length}
 use Rattle.replies.specs.Guarded.{shown_in}
 use Rattle.tables.specs.Choice.{pick}
 use mathlib.Core.List.{List}

@@ -1,7 +1,7 @@
-use Rattle.datafiles.specs.Laws.{shown_short, shown_outside, shown_inside, end_inside}
+use Rattle.datafiles.proofs.Laws.{shown_short, shown_outside, shown_inside, end_inside}
 use Rattle.datafiles.specs.Files.{shown}
 use Rattle.roles.specs.Roles.{size_of}
-use Rattle.wire.specs.Laws.{shows_none, shows_as}
+use Rattle.wire.proofs.Laws.{shows_none, shows_as}
 use native.Mathlib.Omega.{arith}
 use mathlib.Core.Path.{sym, ◌∙◌}
 use Rattle.datafiles.proofs.Files.show.Goals as goal

@@ -1,8 +1,8 @@
 use Rattle.roles.specs.declared.Role.TheVariants.{FirstLong, SecondLong, ShortData}
 use Rattle.roles.specs.Roles.{long_size, short_size, size_of}
 use Rattle.roles.specs.Laws.{same_place}
-use Rattle.wire.specs.Laws.{shows_nothing}
-use Rattle.datafiles.specs.Laws.{no_data}
+use Rattle.wire.proofs.Laws.{shows_nothing}
+use Rattle.datafiles.proofs.Laws.{no_data}
 use lib.ListN.{length}
 use native.Mathlib.Omega.{arith}
 use mathlib.Core.Path.{◌≡◌, refl, sym, ◌∙◌}

@@ -1,7 +1,7 @@
 use Rattle.roles.specs.declared.Role.TheVariants.{FirstLong, SecondLong, ShortData}
 use Rattle.roles.specs.Laws.{same_place}
 use Rattle.datafiles.specs.declared.Files.{Files}
-use Rattle.datafiles.specs.Laws.{no_data}
+use Rattle.datafiles.proofs.Laws.{no_data}
 use mathlib.Core.List.{List}
 use mathlib.Core.Path.{◌≡◌, sym, ap, ◌∙◌}
 use Prim.Native.Nat.{ℕ}

@@ -2,7 +2,7 @@ use Rattle.drafts.proofs.Steps.{writes_as}
 use Rattle.drafts.proofs.Lettered.{spelt_size, lettered_by_lem}
 use Rattle.drafts.specs.Drafts.{lettered_by}
 use Rattle.wire.specs.Bytes.{part}
-use Rattle.wire.specs.Laws.{length_part}
+use Rattle.wire.proofs.Laws.{length_part}
 use borrow.Author.Tests.{eqb-true}
 use lib.Dec.{eqb}
 use lib.ListN.{length, get_or, replicate}

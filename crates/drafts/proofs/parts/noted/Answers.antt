@@ -1,5 +1,5 @@
 use Rattle.held.specs.Held.{noted}
-use Rattle.wire.specs.Laws.{part_over_zeros}
+use Rattle.wire.proofs.Laws.{part_over_zeros}
 use native.Mathlib.Omega.{arith}
 use Rattle.drafts.proofs.parts.noted.Goals as goal
 

@@ -1,5 +1,5 @@
 use Rattle.drafts.specs.Drafts.{unchanged}
-use Rattle.wire.specs.Laws.{shows_whole}
+use Rattle.wire.proofs.Laws.{shows_whole}
 use mathlib.Core.Path.{refl}
 use Rattle.drafts.proofs.parts.put_same.Goals as goal
 

@@ -1,4 +1,4 @@
-use Rattle.wire.specs.Laws.{part_over_zeros}
+use Rattle.wire.proofs.Laws.{part_over_zeros}
 use Rattle.wire.specs.Bytes.{part, laid_in}
 use lib.ListN.{replicate}
 use Prim.Native.Nat.{◌+◌, ◌-◌}

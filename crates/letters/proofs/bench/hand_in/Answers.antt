@@ -1,7 +1,7 @@
 use Rattle.notices.specs.Notices.{notice_text}
 use Rattle.told.specs.Told.{said_of}
 use Rattle.letters.specs.Letters.{inputs_in, handed}
-use Rattle.wire.specs.Laws.{part_over_zeros}
+use Rattle.wire.proofs.Laws.{part_over_zeros}
 use native.Mathlib.Omega.{arith}
 use Rattle.letters.proofs.bench.hand_in.Goals as goal
 

@@ -1,4 +1,4 @@
-use Rattle.lines.specs.Laws.{spelt_there}
+use Rattle.lines.proofs.Laws.{spelt_there}
 use Rattle.kinds.specs.declared.Kind.TheVariants.{HandedIn}
 use Rattle.kinds.specs.Laws.{Known, known}
 use Rattle.letters.proofs.Steps.{lettered_by_lem}
@@ -6,7 +6,7 @@ use Rattle.letters.specs.Letters.{lettered_by}
 use Rattle.text.specs.Hex.{leading}
 use Rattle.text.specs.Laws.{leading_most}
 use Rattle.wire.specs.Bytes.{part}
-use Rattle.wire.specs.Laws.{length_part}
+use Rattle.wire.proofs.Laws.{length_part}
 use borrow.Author.Tests.{eqb-true}
 use lib.Dec.{eqb}
 use lib.ListN.{length, replicate}
