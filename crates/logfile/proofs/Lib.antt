@@ -4,3 +4,4 @@ pub mod Slots
 pub mod Laws
 pub mod FitLaws
 pub mod Former
+pub mod Wear

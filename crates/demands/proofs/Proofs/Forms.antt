@@ -7,7 +7,7 @@ use Rattle.logfile.specs.Journal.{Journal}
 use Rattle.logfile.specs.Ring as ring
 use Rattle.logfile.specs.View as log
 use Rattle.logfile.specs.Former as former
-use Rattle.logfile.proofs.Former.{viewed_moved}
+use Rattle.logfile.proofs.Former as former-laws
 use Rattle.keys.specs.declared.Keys.{Keys}
 use Rattle.settings.specs.declared.Settings.{Settings}
 use Rattle.standing.specs.Parts.{log_broken, chain_broken}
@@ -29,7 +29,7 @@ viewed_moved : (c : FormerCard) (s : State) → Sound s → viewed (moved c s) �
 unfolding viewed moved
 viewed_moved c s h =
     ap (λ (j : Journal). record { core = record { settings = s.core.settings; keys = s.core.keys; purse = s.core.purse; journal = j; channel = s.core.channel }; files = s.files })
-    (viewed_moved c.log s.core.journal h.journal)
+    (former-laws.viewed_moved c.log s.core.journal h.journal)
 
 moved_unbroken : (c : FormerCard) (s : State) → Sound s → was_broken (moved c s) ≡ false
 unfolding was_broken moved former.moved log_broken log_pending chain_broken

@@ -7,7 +7,8 @@ use Rattle.std.proofs.Common.{sym, ◌∙◌, ap, arith}
 use Rattle.tables.specs.Choice.{pick}
 use Rattle.logfile.specs.Journal.{Journal}
 use Rattle.logfile.specs.Journal as journal
-use Rattle.logfile.specs.Wear.{once, stores, wear}
+use Rattle.logfile.specs.Wear.{once, stores}
+use Rattle.logfile.proofs.Wear.{wear}
 use Rattle.keys.specs.declared.Keys.{Keys}
 use Rattle.frames.specs.Frame.{ins_of, data_of}
 use Rattle.settings.specs.declared.Settings.{Settings}
