@@ -3,7 +3,7 @@ use Rattle.std.specs.Prelude.{◌≡◌, refl, List, ◌++◌, ℕ, zero, suc, �
 use Rattle.std.proofs.Math.Path.{ap}
 use Rattle.std.proofs.Common.{ap₂, ◌∙◌, arith, length-append, length-drop, take-append-drop, length-take-le, take_at, drop_at}
 use Rattle.field.specs.Bytes.{Sized, Block, ◌⊞◌, zeros}
-use Rattle.field.specs.Laws.{append_bytes, take_bytes, drop_bytes, elements, sum_block, block_twice, length_sum, zeros_block}
+use Rattle.field.proofs.Laws.{append_bytes, take_bytes, drop_bytes, elements, sum_block, block_twice, length_sum, zeros_block}
 use Rattle.fips197.specs.Keys.{key_expansion}
 use Rattle.fips197.specs.Cipher.{cipher, inv_cipher}
 use Rattle.fips197.specs.Decrypts.{decrypts, encrypted_block, length_cipher}

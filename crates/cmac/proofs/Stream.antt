@@ -12,7 +12,7 @@ use lib.Seq.{drop-cons, append_snoc, take-suc-set, drop-set-lt, length-take-le}
 use Rattle.tables.specs.Choice.{picked, passed}
 use Rattle.field.specs.Field.{◌⊕◌}
 use Rattle.field.specs.Bytes.{sum, ◌⊞◌, zeros}
-use Rattle.field.specs.Laws.{◌∷≡◌, block_moved}
+use Rattle.field.proofs.Laws.{◌∷≡◌, block_moved}
 use Rattle.fips197.specs.Keys.{key_expansion}
 use Rattle.fips197.specs.Cipher.{cipher}
 use Rattle.cmac.specs.Cmac.{first_subkey, second_subkey, subkey1, subkey2, padded, last_block, chain, cmac}

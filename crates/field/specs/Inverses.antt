@@ -1,10 +1,5 @@
 -- The inverse of every byte, computed once: what needs inverses looks them up.
-use Rattle.std.specs.Prelude.{◌≡◌, refl, List, [], ◌∷◌, ℕ, zero, suc, ◌<◌, T, ltb, get_or}
-use Rattle.std.proofs.Common.{ap, ◌∙◌, sym, zero-lt-suc, arith, ltb→lt}
-use Rattle.field.specs.Field.{xtime, inverse}
-use Rattle.lookup.specs.Tables.{tabled, table}
-use Rattle.field.specs.Laws.{◌∷≡◌}
-use Rattle.lookup.specs.Every.{run, below, same, listed, entry}
+use Rattle.std.specs.Prelude.{List, [], ◌∷◌, ℕ}
 
 abbrev pub inverses : List ℕ
 inverses =
@@ -24,21 +19,3 @@ inverses =
     0x7a ∷ 0x07 ∷ 0xae ∷ 0x63 ∷ 0xc5 ∷ 0xdb ∷ 0xe2 ∷ 0xea ∷ 0x94 ∷ 0x8b ∷ 0xc4 ∷ 0xd5 ∷ 0x9d ∷ 0xf8 ∷ 0x90 ∷ 0x6b ∷
     0xb1 ∷ 0x0d ∷ 0xd6 ∷ 0xeb ∷ 0xc6 ∷ 0x0e ∷ 0xcf ∷ 0xad ∷ 0x08 ∷ 0x4e ∷ 0xd7 ∷ 0xe3 ∷ 0x5d ∷ 0x50 ∷ 0x1e ∷ 0xb3 ∷
     0x5b ∷ 0x23 ∷ 0x38 ∷ 0x34 ∷ 0x68 ∷ 0x46 ∷ 0x03 ∷ 0x8c ∷ 0xdd ∷ 0x9c ∷ 0x7d ∷ 0xa0 ∷ 0xcd ∷ 0x1a ∷ 0x41 ∷ 0x1c ∷ []
-
-pub inverses_are : table inverse ≡ inverses
-unfolding table inverse xtime
-inverses_are = listed (table inverse) inverses tt
-
-pub inverse_at : (x : ℕ) → x < 256 → inverse x ≡ get_or inverses x 0
-inverse_at x h = sym (entry inverse x h) ∙ ap (λ (l : List ℕ). get_or l x 0) inverses_are
-
-alike_below : (n : ℕ) {f g : ℕ → ℕ} → ((i : ℕ) → i < n → f i ≡ g i) → tabled n f ≡ tabled n g
-alike_below zero e = refl
-alike_below (suc n) e = e 0 (zero-lt-suc n) ∷≡ alike_below n (λ i h. e (suc i) (omega arith))
-
--- the table of a function that goes through the inverse, by one test of its 256 entries
-pub through : (g h : ℕ → ℕ) (l : List ℕ) → T (run (λ a. ltb (h a) 256) 256 0) → T (same l (tabled 256 (λ a. g (get_or inverses (h a) 0)))) → l ≡ table (λ a. g (inverse (h a)))
-unfolding table
-through g h l u t =
-    listed l (tabled 256 (λ a. g (get_or inverses (h a) 0))) t
-    ∙ alike_below 256 (λ a k. ap g (sym (inverse_at (h a) (ltb→lt (h a) 256 (below 256 (λ a. ltb (h a) 256) u a k)))))

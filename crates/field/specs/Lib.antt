@@ -1,6 +1,3 @@
 pub mod Field
 pub mod Bytes
-pub mod Sums
-pub mod Laws
 pub mod Inverses
-pub mod Inverse

@@ -1,7 +1,7 @@
 -- Each step of Cipher, and Cipher itself, gives a block of bytes.
 use Rattle.std.specs.Prelude.{◌≡◌, List, [], ◌∷◌, ℕ, zero, suc, ◌+◌, ◌*◌, ◌/◌, ◌%◌, ◌<◌, length, get_or}
 use Rattle.field.specs.Bytes.{Bytes, Block}
-use Rattle.field.specs.Laws.{byte_at, tabled_sized, elements, sum_block}
+use Rattle.field.proofs.Laws.{byte_at, tabled_sized, elements, sum_block}
 use Rattle.fips197.specs.Sbox.{sbox}
 use Rattle.fips197.specs.Steps.{at, state, bytewise, sub_bytes, shift_rows, columnwise, mixed, mix_columns, add_round_key}
 use Rattle.fips197.specs.Cipher.{round, rounds, cipher}

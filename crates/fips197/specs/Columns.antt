@@ -6,7 +6,7 @@ use Rattle.std.proofs.lemmas.Nat.{xor_comm}
 use Rattle.std.specs.Int.Bits.{xor_zero_r}
 use Rattle.field.specs.Field.{◌⊕◌, ◌•◌, xtime}
 use Rattle.lookup.specs.Every.{agree}
-use Rattle.field.specs.Sums.{sum_assoc, sum_swap, sum_lt, product_sum, product_lt}
+use Rattle.field.proofs.Sums.{sum_assoc, sum_swap, sum_lt, product_sum, product_lt}
 use Rattle.fips197.specs.Steps.{mixed, unmixed}
 
 abbrev four : ℕ → ℕ → ℕ → ℕ → ℕ

@@ -4,7 +4,7 @@ use Rattle.std.proofs.Math.Path.{ap}
 use Rattle.std.proofs.Common.{◌∙◌}
 use mathlib.Core.List.{List, []}
 use Rattle.field.specs.Bytes.{Block}
-use Rattle.field.specs.Laws.{tabled_alike, block_twice, length_sum}
+use Rattle.field.proofs.Laws.{tabled_alike, block_twice, length_sum}
 use Rattle.fips197.specs.Steps.{at, state, bytewise, sub_bytes, shift_rows, mix_columns, add_round_key, inv_sub_bytes, inv_shift_rows, inv_mix_columns}
 use Rattle.fips197.specs.Keys.{key_expansion}
 use Rattle.fips197.specs.Cipher.{round, rounds, cipher, inv_round, inv_rounds, inv_cipher}

@@ -6,8 +6,8 @@ use mathlib.Core.List.{List, [], ◌∷◌, ◌++◌}
 use Rattle.tables.specs.Choice.{picked, passed}
 use Rattle.lookup.specs.Tables.{tabled}
 use Rattle.field.specs.Bytes.{Bytes, Block, sum}
-use Rattle.field.specs.Sums.{xtime_lt}
-use Rattle.field.specs.Laws.{byte_at, append_bytes, tabled_sized, tabled_alike, sum_sized}
+use Rattle.field.proofs.Sums.{xtime_lt}
+use Rattle.field.proofs.Laws.{byte_at, append_bytes, tabled_sized, tabled_alike, sum_sized}
 use Rattle.fips197.specs.Sbox.{sbox}
 use Rattle.fips197.specs.Steps.{at}
 use Rattle.fips197.specs.Keys.{word, rot_word, sub_word, power, rcon, temp, onward, words, joined, round_key, key_expansion}

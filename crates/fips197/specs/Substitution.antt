@@ -2,7 +2,8 @@
 use Rattle.std.specs.Prelude.{◌≡◌, ℕ, ◌<◌, ltb, get_or}
 use Rattle.std.proofs.Common.{sym, ap, subst, ◌∙◌, ltb→lt}
 use Rattle.lookup.specs.Every.{below, agree}
-use Rattle.field.specs.Inverses.{inverses, inverse_at}
+use Rattle.field.specs.Inverses.{inverses}
+use Rattle.field.proofs.Inverses.{inverse_at}
 use Rattle.fips197.specs.Sbox.{affine, unaffine, sbox, inv_sbox}
 
 abbrev looked : ℕ → ℕ

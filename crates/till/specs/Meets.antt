@@ -9,7 +9,7 @@ use Rattle.std.proofs.Math.Seq.{take_at, drop_at}
 use Rattle.wire.specs.Bytes.{part}
 use Rattle.wire.specs.Same.{same_equal}
 use Rattle.field.specs.Bytes.{Sized, Block, zeros}
-use Rattle.field.specs.Laws.{append_bytes, append_sized, take_bytes, zeros_block}
+use Rattle.field.proofs.Laws.{append_bytes, append_sized, take_bytes, zeros_block}
 use Rattle.cbc.specs.Cbc.{decrypted}
 use Rattle.cbc.specs.Laws.{undone}
 use Rattle.handshake.specs.Handshake.{rotated, first_reply, brought_a, fails, second_reply}

@@ -7,7 +7,7 @@ use lib.ListN.{length, get_or, take, set, length-set}
 use lib.Seq.{take_all, take-suc-set}
 use Rattle.field.specs.Field.{◌⊕◌}
 use Rattle.lookup.specs.Tables.{tabled}
-use Rattle.field.specs.Laws.{stored_next}
+use Rattle.field.proofs.Laws.{stored_next}
 use Rattle.cmac.specs.Cmac.{shifted, doubled}
 use Rattle.cmac.proofs.double.Goals as goal
 

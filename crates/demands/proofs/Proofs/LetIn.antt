@@ -10,7 +10,7 @@ use Rattle.tables.specs.Reasons.{none_first}
 use Rattle.wire.specs.Bytes.{word}
 use Rattle.wire.specs.Listed.{filled, length_filled}
 use Rattle.field.specs.Bytes.{Bytes, Block, Sized, zeros}
-use Rattle.field.specs.Laws.{append_bytes, take_bytes, zeros_block}
+use Rattle.field.proofs.Laws.{append_bytes, take_bytes, zeros_block}
 use Rattle.keys.specs.declared.Keys.{Keys}
 use Rattle.keys.specs.Keys.{key_at}
 use Rattle.chains.specs.Chain.{unchained, is_open}

@@ -6,7 +6,7 @@ use lib.ListN.{get_or, take, length-set}
 use lib.Seq.{take_all}
 use Rattle.field.specs.Field.{◌⊕◌}
 use Rattle.field.specs.Bytes.{sum, ◌⊞◌}
-use Rattle.field.specs.Laws.{stored_next}
+use Rattle.field.proofs.Laws.{stored_next}
 use Rattle.field.proofs.add_blocks.Goals as goal
 
 pub loop-i-init : goal.loop-i-init

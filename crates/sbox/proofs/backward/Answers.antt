@@ -1,4 +1,4 @@
-use Rattle.field.specs.Inverses.{through}
+use Rattle.field.proofs.Inverses.{through}
 use Rattle.fips197.specs.Sbox.{unaffine, inv_sbox}
 use Rattle.sbox.proofs.backward.Goals as goal
 

@@ -1,4 +1,4 @@
-use Rattle.field.specs.Inverses.{through}
+use Rattle.field.proofs.Inverses.{through}
 use Rattle.fips197.specs.Sbox.{affine, sbox}
 use Rattle.sbox.proofs.forward.Goals as goal
 

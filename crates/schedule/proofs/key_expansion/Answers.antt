@@ -2,7 +2,7 @@ use borrow.Author.Rules.{rules}
 use mathlib.Core.Path.{◌≡◌, refl, sym, ap, ◌∙◌}
 use lib.ListN.{length}
 use Rattle.field.specs.Field.{xtime}
-use Rattle.field.specs.Laws.{◌∷≡◌}
+use Rattle.field.proofs.Laws.{◌∷≡◌}
 use Rattle.fips197.specs.Schedule.{next_key, by_round_keys}
 use Rattle.schedule.proofs.key_expansion.Goals as goal
 use Rattle.schedule.proofs.key_expansion.Goals.{Start}

@@ -4,7 +4,7 @@ use Prim.Native.Nat.{ℕ}
 use lib.Bits.{xor_zero_r}
 use Rattle.field.specs.Field.{◌⊕◌}
 use Rattle.lookup.specs.Tables.{tabled}
-use Rattle.field.specs.Laws.{◌∷≡◌}
+use Rattle.field.proofs.Laws.{◌∷≡◌}
 use Rattle.fips197.specs.Sbox.{sbox}
 use Rattle.fips197.specs.Keys.{joined}
 use Rattle.fips197.specs.Schedule.{next_word, next_key}

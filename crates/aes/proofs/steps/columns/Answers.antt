@@ -1,7 +1,7 @@
 use borrow.Author.Rules.{rules}
 use mathlib.Core.Path.{ap₂}
 use mathlib.Core.List.{◌++◌}
-use Rattle.field.specs.Laws.{elements}
+use Rattle.field.proofs.Laws.{elements}
 use Rattle.aes.proofs.steps.columns.Goals as goal
 
 pub returns : goal.returns

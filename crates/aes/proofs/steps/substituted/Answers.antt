@@ -6,7 +6,7 @@ use native.Mathlib.Omega.{arith}
 use lib.ListN.{get_or, take, set, length-set}
 use lib.Seq.{take_all}
 use Rattle.lookup.specs.Tables.{tabled}
-use Rattle.field.specs.Laws.{stored_next}
+use Rattle.field.proofs.Laws.{stored_next}
 use Rattle.aes.proofs.steps.substituted.Goals as goal
 
 pub loop-i-init : goal.loop-i-init

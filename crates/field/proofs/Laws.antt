@@ -6,7 +6,7 @@ use Rattle.std.proofs.lemmas.Nat.{xor_comm}
 use Rattle.field.specs.Field.{◌⊕◌}
 use Rattle.lookup.specs.Tables.{tabled}
 use Rattle.field.specs.Bytes.{Bytes, Sized, Block, sum, ◌⊞◌, zeros}
-use Rattle.field.specs.Sums.{sum_assoc, sum_twice, sum_lt}
+use Rattle.field.proofs.Sums.{sum_assoc, sum_twice, sum_lt}
 
 infixr 5 ◌∷≡◌
 -- two lists are equal, element by element

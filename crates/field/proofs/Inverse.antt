@@ -3,7 +3,8 @@ use Rattle.std.specs.Prelude.{◌≡◌, refl, ℕ, zero, suc, ◌<◌, get_or}
 use Rattle.std.proofs.Common.{ap, ◌∙◌, le_of_suc-le-suc}
 use Rattle.field.specs.Field.{◌•◌, xtime, inverse}
 use Rattle.lookup.specs.Every.{agree}
-use Rattle.field.specs.Inverses.{inverses, inverse_at}
+use Rattle.field.specs.Inverses.{inverses}
+use Rattle.field.proofs.Inverses.{inverse_at}
 
 from_one : (x : ℕ) → x < 255 → suc x • get_or inverses (suc x) 0 ≡ 1
 unfolding xtime

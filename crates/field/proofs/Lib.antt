@@ -1,0 +1,4 @@
+pub mod Sums
+pub mod Laws
+pub mod Inverses
+pub mod Inverse
