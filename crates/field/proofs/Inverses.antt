@@ -1,5 +1,5 @@
 -- The inverse of every byte, computed once: what needs inverses looks them up.
-use Rattle.std.specs.Prelude.{◌≡◌, refl, List, ◌∷◌, ℕ, zero, suc, ◌<◌, T, ltb, get_or}
+use Rattle.std.specs.Prelude.{◌≡◌, refl, List, ℕ, zero, suc, ◌<◌, T, ltb, get_or}
 use Rattle.std.proofs.Common.{ap, ◌∙◌, sym, zero-lt-suc, arith, ltb→lt}
 use Rattle.field.specs.Field.{xtime, inverse}
 use Rattle.lookup.specs.Tables.{tabled, table}

@@ -8,11 +8,5 @@ ghost use Rattle.field.specs.Bytes.{◌⊞◌};
 pub fn add_blocks(a: [u8; 16], b: [u8; 16]) -> [u8; 16]
     ensures { result ≡ a ⊞ b }
 {
-    let mut r = a;
-    let mut i: usize = 0;
-    while i < 16 {
-        r[i] = a[i] ^ b[i];
-        i += 1;
-    }
-    r
+    std::array::from_fn(|i| a[i] ^ b[i])
 }
