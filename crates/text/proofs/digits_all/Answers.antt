@@ -3,18 +3,9 @@ use Rattle.text.proofs.Steps.{high_at, low_at, filled_more, filled_laid}
 use Rattle.text.specs.Laws.{length_digits}
 use lib.ListN.{length, length-set}
 use Prim.Native.Nat.{◌+◌, ◌*◌}
-use mathlib.Core.Path.{◌≡◌, refl, ◌∙◌}
+use mathlib.Core.Path.{◌≡◌, ◌∙◌}
 use native.Mathlib.Omega.{arith}
 use Rattle.text.proofs.digits_all.Goals as goal
-
-pub loop-i-init : goal.loop-i-init
-loop-i-init c = (omega arith, refl, refl)
-
-pub capital_of-requires : goal.capital_of-requires
-capital_of-requires c = omega (arith, c.shared_slice_known-1.given c.loop-i.i)
-
-pub bounds-out-i-in-loop-i : goal.bounds-out-i-in-loop-i
-bounds-out-i-in-loop-i c = simp length-set (omega arith)
 
 pub loop-i-preserved : goal.loop-i-preserved
 loop-i-preserved c =
@@ -28,16 +19,12 @@ loop-i-preserved c =
     let next : 2 * i + 1 + 1 ≡ 2 * (i + 1) = omega arith in
     let first = filled_more d x (2 * i) _ (omega arith) (omega arith) (c.capital_of.ensures ∙ high_at bs i (omega arith)) in
     let second = filled_more d x (2 * i + 1) _ (omega arith) (omega arith) (c.capital_of-in-loop-i.ensures ∙ low_at bs i (omega arith)) in (
-      omega arith,
-      simp length-set o.invariant.1,
-      rw (o.invariant.2, first, second, next),
+      simp length-set o.invariant.0,
+      rw (o.invariant.1, first, second, next),
     )
-
-pub shape_of-out : goal.shape_of-out
-shape_of-out c = c.loop-i.invariant.1
 
 pub returns : goal.returns
 returns c =
     let p = c.args in
     let bs = p.bytes.now in
-    c.loop-i.invariant.2 ∙ filled_laid p.out.now (in_digits bs) (2 * c.loop-i.i) (omega (arith, length_digits bs))
+    c.loop-i.invariant.1 ∙ filled_laid p.out.now (in_digits bs) (2 * c.loop-i.i) (omega (arith, length_digits bs))

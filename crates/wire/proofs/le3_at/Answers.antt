@@ -1,7 +1,7 @@
 use native.Mathlib.Omega.{arith}
 use Rattle.wire.specs.Bytes.{le3}
-use Rattle.wire.proofs.low_at.Goals as goal
+use Rattle.wire.proofs.le3_at.Goals as goal
 
 pub returns : goal.returns
 unfolding le3
-returns c = (omega arith, omega arith)
+returns c = omega arith
