@@ -1,8 +1,6 @@
 -- Access rights: four nibbles from the top, Read, Write, ReadWrite, Change. 0 to 4 is a key, Eh is free, Fh is never.
-use Rattle.std.specs.Prelude.{ℕ, ◌/◌, ◌%◌, Bool, true, false, not, ◌&&◌, ◌||◌, eqb, leb}
+use Rattle.std.specs.Prelude.{ℕ, ◌/◌, ◌%◌, Bool, true, false, not, ◌&&◌, ◌||◌, eqb, leb, Option, None, Some}
 use Rattle.tables.specs.Choice.{pick}
-use Rattle.access.specs.declared.Session.{Session}
-use Rattle.access.specs.declared.Session.TheVariants.{Nobody, Key}
 use Rattle.access.specs.declared.Access.{Access}
 use Rattle.access.specs.declared.Access.TheVariants.{Never, NotGranted, FreeOnly, ByKey}
 
@@ -37,17 +35,17 @@ nibble_sound n = leb n last_key || leb free n
 unfoldable pub rights_sound : ℕ → Bool
 rights_sound x = nibble_sound (read_of x) && nibble_sound (write_of x) && nibble_sound (read_write_of x) && nibble_sound (change_of x)
 
--- ---- the session: none, or a key's number
+-- ---- the session: none, or the number of its key
 
 -- the key number that a session names, or none: 16, which is no nibble
-abbrev pub key_of : Session → ℕ
-key_of Nobody = 16
-key_of (Key k) = k
+abbrev pub key_of : Option ℕ → ℕ
+key_of None = 16
+key_of (Some k) = k
 
 -- none, or a key 0 to 4
-abbrev pub session_sound : Session → Bool
-session_sound Nobody = true
-session_sound (Key k) = leb k last_key
+abbrev pub session_sound : Option ℕ → Bool
+session_sound None = true
+session_sound (Some k) = leb k last_key
 
 -- ---- the decision, where Read grants if by_read, Write if by_write, and ReadWrite always
 
@@ -60,7 +58,7 @@ unfoldable pub granting : ℕ → ℕ → Bool → Bool → Bool
 granting k x by_read by_write = (by_read && eqb (read_of x) k) || (by_write && eqb (write_of x) k) || eqb (read_write_of x) k
 
 -- never; by the session's key; by a free condition only, where freely is one more; or not at all
-unfoldable pub access_of : ℕ → Session → Bool → Bool → Bool → Access
+unfoldable pub access_of : ℕ → Option ℕ → Bool → Bool → Bool → Access
 access_of x s by_read by_write freely =
     pick (sealed x by_read by_write) Never
     (pick (granting (key_of s) x by_read by_write) ByKey

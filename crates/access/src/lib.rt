@@ -1,17 +1,11 @@
-// Access rights, the session, and the access decision.
+// Access rights, and the access decision under a session: none, or the number of its key.
 #![tactic(auto)]
 
 ghost use Rattle.std.specs.Prelude.{◌≡◌};
 ghost use Rattle.access.specs.Rights.{read_of, write_of, read_write_of, change_of, nibble_sound, rights_sound, key_of, session_sound, sealed, granting, access_of};
 
-#[derive(Clone, Copy)]
-pub enum Session {
-    Nobody,
-    Key(u8),
-}
-
 // The access decision's answers; a free condition and the session's key both granting counts as the key.
-#[derive(Clone, Copy)]
+#[derive(Clone, Copy, PartialEq, Eq)]
 pub enum Access {
     Never,
     NotGranted,
@@ -84,15 +78,32 @@ fn is_granting(k: u8, x: u16, by_read: bool, by_write: bool) -> bool
     (by_read & (r == k)) | (by_write & (w == k)) | (rw == k)
 }
 
+// The key that a session names, or 16, which is no nibble.
+fn key_of(session: Option<u8>) -> u8
+    ensures { result ≡ key_of session }
+{
+    session.unwrap_or(16)
+}
+
+// Whether there is no session, or one with a key 0 to 4.
+pub fn is_session_sound(session: Option<u8>) -> bool
+    ensures { result ≡ session_sound session }
+{
+    match session {
+        None => true,
+        Some(key) => key <= LAST_KEY,
+    }
+}
+
 // Whether a command is granted on a file, and through which door: by Read if by_read, by Write if by_write, by ReadWrite, or freely.
-pub fn decide(x: u16, session: Session, by_read: bool, by_write: bool, freely: bool) -> Access
+pub fn decide(x: u16, session: Option<u8>, by_read: bool, by_write: bool, freely: bool) -> Access
     ensures { result ≡ access_of x session by_read by_write freely }
 {
     let sealed = is_sealed(x, by_read, by_write);
     if sealed {
         return Access::Never;
     }
-    let key = is_granting(session.key(), x, by_read, by_write);
+    let key = is_granting(key_of(session), x, by_read, by_write);
     if key {
         return Access::ByKey;
     }
@@ -101,25 +112,4 @@ pub fn decide(x: u16, session: Session, by_read: bool, by_write: bool, freely: b
         return Access::FreeOnly;
     }
     Access::NotGranted
-}
-
-impl Session {
-    fn key(self) -> u8
-        ensures { result ≡ key_of self }
-    {
-        match self {
-            Session::Nobody => 16,
-            Session::Key(k) => k,
-        }
-    }
-
-    // Whether there is no session, or one with a key 0 to 4.
-    pub fn is_sound(self) -> bool
-        ensures { result ≡ session_sound self }
-    {
-        match self {
-            Session::Nobody => true,
-            Session::Key(k) => k <= LAST_KEY,
-        }
-    }
 }

@@ -1,5 +1,5 @@
 -- Laws of the card's parts and events, as the code goes through them.
-use Rattle.std.specs.Prelude.{ℕ, ◌+◌, ◌≤◌, Bool, not, ◌≡◌, eqb, ℤ}
+use Rattle.std.specs.Prelude.{ℕ, ◌+◌, ◌≤◌, Bool, not, ◌≡◌, eqb, ℤ, Option}
 use Rattle.std.proofs.Math.Bool.{true, false}
 use mathlib.Core.List.{List, [], ◌++◌}
 use Rattle.std.proofs.Math.Path.{refl, sym, ap}
@@ -18,7 +18,6 @@ use Rattle.purse.specs.declared.Purse.{Purse}
 use Rattle.roles.specs.declared.Role.{Role}
 use Rattle.datafiles.specs.declared.Files.{Files}
 use Rattle.datafiles.specs.Files as files
-use Rattle.access.specs.declared.Session.{Session}
 use Rattle.access.specs.Rights.{session_sound}
 use Rattle.keys.specs.declared.Keys.{Keys}
 use Rattle.chains.specs.declared.Chain.{Chain}
@@ -316,7 +315,7 @@ delivers c x b ea ef eg el s =
 
 -- ---- the other events
 
-module _ (c : Card) (k : Session) where
+module _ (c : Card) (k : Option ℕ) where
   pub session_unknown : not (session_sound k) ≡ true → reply c 4 0 ≡ reply_of (session_changed c k)
   unfolding session_changed
   session_unknown e = bench_reply c 4 ∙ ap reply_of (sym (picked _ _ e))

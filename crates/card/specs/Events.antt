@@ -1,5 +1,5 @@
 -- The events: personalisation, a command, the opening of a chain, a frame of file bytes, a session change, a power-up.
-use Rattle.std.specs.Prelude.{ℕ, ◌-◌, List, [], ◌++◌, Bool, not, false, ltb, eqb, ℤ, pos, length}
+use Rattle.std.specs.Prelude.{ℕ, ◌-◌, List, [], ◌++◌, Bool, not, false, ltb, eqb, ℤ, pos, length, Option}
 use Rattle.tables.specs.Choice.{pick}
 use Rattle.wire.specs.Bytes.{word}
 use Rattle.roles.specs.declared.Role.{Role}
@@ -7,7 +7,6 @@ use Rattle.datafiles.specs.Files as files
 use Rattle.purse.specs.Purse as purse
 use Rattle.logfile.specs.Journal as journal
 use Rattle.logfile.specs.View as log
-use Rattle.access.specs.declared.Session.{Session}
 use Rattle.access.specs.Rights.{session_sound}
 use Rattle.keys.specs.declared.Keys.{Keys}
 use Rattle.keys.specs.Keys as keys
@@ -189,10 +188,10 @@ bytes_sent c b room = benched c room (bytes_played (view c) b)
 
 -- ---- a session change leaves pending work in place, and nothing of the session before it, nor of a chain
 
-unfoldable pub with_session : State → Session → State
+unfoldable pub with_session : State → Option ℕ → State
 with_session s k = with_channel s (bare (stage_of k))
 
-unfoldable pub session_changed : Card → Session → Outcome
+unfoldable pub session_changed : Card → Option ℕ → Outcome
 session_changed c k =
     pick (not (session_sound k)) (bench c 4)
     (pick (broken c) (bench c 6)

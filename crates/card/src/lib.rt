@@ -12,7 +12,6 @@ ghost use Rattle.card.specs.View.{view, put, on_channel};
 ghost use Rattle.card.specs.Outcome.{reply_of};
 ghost use Rattle.card.specs.Events.{ended, bench_refusal, session_changed, powered_up, personalised};
 
-use access::Session;
 use chains::Chain;
 use channel::{Channel, Stage};
 use datafiles::Files;
@@ -148,10 +147,10 @@ impl Card {
     }
 
     // A session change: a key 0 to 4, or none.
-    pub fn change_session(self, session: Session) -> Reply
+    pub fn change_session(self, session: Option<u8>) -> Reply
         ensures { result ≡ reply_of (session_changed self session) }
     {
-        if !session.is_sound() {
+        if !access::is_session_sound(session) {
             return Reply {
                 card: self,
                 refusal: 4,
@@ -173,7 +172,7 @@ impl Card {
                 len: 0,
             };
         }
-        let card = self.on_channel(Channel::bare(Stage::of_session(session)));
+        let card = self.on_channel(Channel::bare(Stage::from(session)));
         Reply {
             card,
             refusal: 0,

@@ -69,12 +69,9 @@ impl Chain {
         if self.left as usize <= n {
             return Chain::none();
         }
-        let file = self.file;
         Chain {
-            file,
-            place: self.place,
-            len: self.len,
             left: self.left - n as u32,
+            ..self
         }
     }
 

@@ -1,10 +1,8 @@
 -- What the standing rules say of a channel, with the sizes of its bytes, and that every step keeps it.
-use Rattle.std.specs.Prelude.{ℕ, Bool, true, false, ◌&&◌, ◌≡◌, leb}
+use Rattle.std.specs.Prelude.{ℕ, Bool, true, false, ◌&&◌, ◌≡◌, leb, Option, None, Some}
 use Rattle.std.proofs.lemmas.Bool.{false≢true}
 use Rattle.std.proofs.Math.Path.{refl}
 use Rattle.tables.specs.Choice.{pick_cases, and_right}
-use Rattle.access.specs.declared.Session.{Session}
-use Rattle.access.specs.declared.Session.TheVariants.{Nobody, Key}
 use Rattle.access.specs.Rights.{last_key, session_sound}
 use Rattle.chains.specs.declared.Chain.{Chain}
 use Rattle.chains.specs.Chain.{unchained, is_open, completes, shortened, chain_sound}
@@ -19,9 +17,9 @@ pub bare_fitting : (g : Stage) → stage_sound g ≡ true → Fitting (bare g)
 unfolding bare unchained
 bare_fitting g e = record { known = e; secret = refl; ti = refl; caps = refl; chain = unfold unchained in none_sound; free = refl }
 
-pub bench_sound : (k : Session) → session_sound k ≡ true → stage_sound (stage_of k) ≡ true
-bench_sound Nobody e = refl
-bench_sound (Key k) e = e
+pub bench_sound : (k : Option ℕ) → session_sound k ≡ true → stage_sound (stage_of k) ≡ true
+bench_sound None e = refl
+bench_sound (Some k) e = e
 
 pub key_sound : (g : Stage) → stage_sound g ≡ true → leb (stage_key g) last_key ≡ true
 key_sound Closed e = refl

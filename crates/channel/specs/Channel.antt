@@ -1,8 +1,6 @@
 -- How far a session has come, and the bytes that terminal and card then know.
-use Rattle.std.specs.Prelude.{ℕ, ◌+◌, ◌%◌, Bool, true, false, leb, replicate}
+use Rattle.std.specs.Prelude.{ℕ, ◌+◌, ◌%◌, Bool, true, false, leb, replicate, Option, None, Some}
 use Rattle.tables.specs.Choice.{pick}
-use Rattle.access.specs.declared.Session.{Session}
-use Rattle.access.specs.declared.Session.TheVariants.{Nobody, Key}
 use Rattle.access.specs.Rights.{last_key}
 use Rattle.chains.specs.declared.Chain.{Chain}
 use Rattle.chains.specs.Chain.{unchained, completes, shortened}
@@ -11,16 +9,16 @@ use Rattle.channel.specs.declared.Stage.TheVariants.{Closed, Bench, Waiting, Rea
 use Rattle.channel.specs.declared.Channel.{Channel}
 
 -- a session of the bench stays plain
-abbrev pub stage_of : Session → Stage
-stage_of Nobody = Closed
-stage_of (Key k) = Bench k
+abbrev pub stage_of : Option ℕ → Stage
+stage_of None = Closed
+stage_of (Some k) = Bench k
 
 -- the session that access is decided by; between the two parts of an authentication there is none
-abbrev pub acting_of : Stage → Session
-acting_of Closed = Nobody
-acting_of (Bench k) = Key k
-acting_of (Waiting k) = Nobody
-acting_of (Real k n) = Key k
+abbrev pub acting_of : Stage → Option ℕ
+acting_of Closed = None
+acting_of (Bench k) = Some k
+acting_of (Waiting k) = None
+acting_of (Real k n) = Some k
 
 -- the key that it names; 0 without one
 abbrev pub named : Stage → ℕ

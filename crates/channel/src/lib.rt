@@ -5,7 +5,6 @@ ghost use Rattle.std.specs.Prelude.{◌≡◌};
 ghost use Rattle.channel.specs.Named.{acts};
 ghost use Rattle.channel.specs.Channel.{stage_of, acting_of, named, stage_sound, is_waiting, stage_key, counter_of, counted_up, bare, counted, chained, advanced};
 
-use access::Session;
 use chains::Chain;
 
 // No session; one of the bench, with its key; a first part of AuthenticateEV2First that waits for its second, with its key;
@@ -37,26 +36,25 @@ pub struct Inputs {
     pub ti: [u8; 4],
 }
 
-impl Stage {
-    // The stage of a session that the bench opens or ends.
-    pub fn of_session(session: Session) -> Stage
-        ensures { result ≡ stage_of session }
-    {
+// The stage of a session that the bench opens or ends.
+impl From<Option<u8>> for Stage {
+    ghost from_gives = { λ session stage. stage ≡ stage_of session };
+
+    fn from(session: Option<u8>) -> Stage {
         match session {
-            Session::Nobody => Stage::Closed,
-            Session::Key(k) => Stage::Bench(k),
+            None => Stage::Closed,
+            Some(key) => Stage::Bench(key),
         }
     }
+}
 
+impl Stage {
     // The session that access is decided by.
-    pub fn acting(self) -> Session
+    pub fn acting(self) -> Option<u8>
         ensures { result ≡ acting_of self }
     {
         let key = self.named();
-        if self.acts() {
-            return Session::Key(key);
-        }
-        Session::Nobody
+        self.acts().then_some(key)
     }
 
     // Whether its key, if it has one, is 0 to 4.
@@ -73,9 +71,7 @@ impl Stage {
     {
         match self {
             Stage::Closed => 0,
-            Stage::Bench(key) => key,
-            Stage::Waiting(key) => key,
-            Stage::Real(key, _) => key,
+            Stage::Bench(key) | Stage::Waiting(key) | Stage::Real(key, _) => key,
         }
     }
 
@@ -83,24 +79,14 @@ impl Stage {
     fn acts(self) -> bool
         ensures { result ≡ acts self }
     {
-        match self {
-            Stage::Closed => false,
-            Stage::Bench(_) => true,
-            Stage::Waiting(_) => false,
-            Stage::Real(_, _) => true,
-        }
+        matches!(self, Stage::Bench(_) | Stage::Real(_, _))
     }
 
     // Whether a first part waits for its second.
     pub fn is_waiting(self) -> bool
         ensures { result ≡ is_waiting self }
     {
-        match self {
-            Stage::Closed => false,
-            Stage::Bench(_) => false,
-            Stage::Waiting(_) => true,
-            Stage::Real(_, _) => false,
-        }
+        matches!(self, Stage::Waiting(_))
     }
 
     // The key of a real session or a waiting first part; 0 without one.
@@ -108,10 +94,8 @@ impl Stage {
         ensures { result ≡ stage_key self }
     {
         match self {
-            Stage::Closed => 0,
-            Stage::Bench(_) => 0,
-            Stage::Waiting(k) => k,
-            Stage::Real(k, _) => k,
+            Stage::Closed | Stage::Bench(_) => 0,
+            Stage::Waiting(k) | Stage::Real(k, _) => k,
         }
     }
 
@@ -120,9 +104,7 @@ impl Stage {
         ensures { result ≡ counter_of self }
     {
         match self {
-            Stage::Closed => 0,
-            Stage::Bench(_) => 0,
-            Stage::Waiting(_) => 0,
+            Stage::Closed | Stage::Bench(_) | Stage::Waiting(_) => 0,
             Stage::Real(_, n) => n,
         }
     }
@@ -132,10 +114,8 @@ impl Stage {
         ensures { result ≡ counted_up self }
     {
         match self {
-            Stage::Closed => Stage::Closed,
-            Stage::Bench(k) => Stage::Bench(k),
-            Stage::Waiting(k) => Stage::Waiting(k),
-            Stage::Real(k, n) => Stage::Real(k, ((n as u32 + 1) % 65536) as u16),
+            Stage::Real(key, n) => Stage::Real(key, n.wrapping_add(1)),
+            Stage::Closed | Stage::Bench(_) | Stage::Waiting(_) => self,
         }
     }
 }
@@ -158,17 +138,9 @@ impl Channel {
     pub fn counted(self) -> Channel
         ensures { result ≡ counted self }
     {
-        let stage = self.stage;
-        let secret = self.secret;
-        let ti = self.ti;
-        let caps = self.caps;
-        let chain = self.chain;
         Channel {
-            stage: stage.counted(),
-            secret,
-            ti,
-            caps,
-            chain,
+            stage: self.stage.counted(),
+            ..self
         }
     }
 
@@ -176,17 +148,7 @@ impl Channel {
     pub fn chained(self, chain: Chain) -> Channel
         ensures { result ≡ chained self chain }
     {
-        let stage = self.stage;
-        let secret = self.secret;
-        let ti = self.ti;
-        let caps = self.caps;
-        Channel {
-            stage,
-            secret,
-            ti,
-            caps,
-            chain,
-        }
+        Channel { chain, ..self }
     }
 
     // The channel after n bytes of the open chain.

@@ -38,22 +38,25 @@ impl Row {
 fn on_data(ins: u8) -> bool
     ensures { result ≡ on_data ins }
 {
-    (ins == table::READ_DATA) | (ins == table::WRITE_DATA)
+    matches!(ins, table::READ_DATA | table::WRITE_DATA)
 }
 
 fn on_value(ins: u8) -> bool
     ensures { result ≡ on_value ins }
 {
-    (ins == table::GET_VALUE)
-        | (ins == table::CREDIT)
-        | (ins == table::DEBIT)
-        | (ins == table::LIMITED_CREDIT)
+    matches!(
+        ins,
+        table::GET_VALUE | table::CREDIT | table::DEBIT | table::LIMITED_CREDIT
+    )
 }
 
 fn on_log(ins: u8) -> bool
     ensures { result ≡ on_log ins }
 {
-    (ins == table::READ_RECORDS) | (ins == table::WRITE_RECORD) | (ins == table::CLEAR_RECORD_FILE)
+    matches!(
+        ins,
+        table::READ_RECORDS | table::WRITE_RECORD | table::CLEAR_RECORD_FILE
+    )
 }
 
 fn on_file(ins: u8) -> bool
@@ -74,26 +77,29 @@ fn names_file(ins: u8) -> bool
 fn ends_all(ins: u8) -> bool
     ensures { result ≡ ends ins }
 {
-    (ins == table::COMMIT_TRANSACTION) | (ins == table::ABORT_TRANSACTION)
+    matches!(ins, table::COMMIT_TRANSACTION | table::ABORT_TRANSACTION)
 }
 
 fn by_read(ins: u8) -> bool
     ensures { result ≡ by_read ins }
 {
-    (ins == table::READ_DATA)
-        | (ins == table::GET_VALUE)
-        | (ins == table::DEBIT)
-        | (ins == table::READ_RECORDS)
+    matches!(
+        ins,
+        table::READ_DATA | table::GET_VALUE | table::DEBIT | table::READ_RECORDS
+    )
 }
 
 fn by_write(ins: u8) -> bool
     ensures { result ≡ by_write ins }
 {
-    (ins == table::WRITE_DATA)
-        | (ins == table::GET_VALUE)
-        | (ins == table::DEBIT)
-        | (ins == table::LIMITED_CREDIT)
-        | (ins == table::WRITE_RECORD)
+    matches!(
+        ins,
+        table::WRITE_DATA
+            | table::GET_VALUE
+            | table::DEBIT
+            | table::LIMITED_CREDIT
+            | table::WRITE_RECORD
+    )
 }
 
 // Whether a file of this role is of the kind on which the command acts.

@@ -1,12 +1,11 @@
 -- The places as the code asks them.
-use Rattle.std.specs.Prelude.{ℕ, Bool, ◌&&◌, ◌||◌, List, ◌≡◌}
+use Rattle.std.specs.Prelude.{ℕ, Bool, ◌&&◌, ◌||◌, List, ◌≡◌, Option}
 use Rattle.std.proofs.Math.Path.{refl}
 use Rattle.purse.specs.declared.Purse.{Purse}
 use Rattle.logfile.specs.declared.Log.{Log}
 use Rattle.logfile.specs.View as log
 use Rattle.logfile.proofs.Laws.{entries_view}
 use Rattle.access.specs.declared.Access.{Access}
-use Rattle.access.specs.declared.Session.{Session}
 use Rattle.keys.specs.declared.Keys.{Keys}
 use Rattle.channel.specs.declared.Channel.{Channel}
 use Rattle.channel.specs.Channel.{acting_of}
@@ -20,7 +19,7 @@ use Rattle.commands.specs.Places.{places_under, places_of}
 
 -- where they were asked of the file n that is named, the access a, and the data field d without a MAC if m
 pub asked_by : (o : Bool) (s : Settings) (ks : Keys) (p : Purse) (l : Log) (ch : Channel) (i : ℕ) (x : List ℕ)
-    {n : Named} {k : Session} {a : Access} {sealed m : Bool} {d : List ℕ} {v1 v2 v3 v4 v5 v6 v7 v8 v9 v10 v11 v12 v13 v14 v15 : Bool}
+    {n : Named} {k : Option ℕ} {a : Access} {sealed m : Bool} {d : List ℕ} {v1 v2 v3 v4 v5 v6 v7 v8 v9 v10 v11 v12 v13 v14 v15 : Bool}
     → n ≡ named_by s (role_in s x) → k ≡ acting_of ch.stage → a ≡ access_by s n.file.rights k i → sealed ≡ maced_under a n.file.maced ch.stage i → m ≡ carries o sealed → d ≡ plain_of m x
     → v1 ≡ unknown_command o ch.stage i → v2 ≡ interrupts ch.stage ch.chain i → v3 ≡ wrong_length o i d → v4 ≡ lacks_mac m x → v5 ≡ unknown_file i n.role
     → v6 ≡ other_kind_or_never i n.role a → v7 ≡ not_granted i a → v8 ≡ part_fails ks ch i d → v9 ≡ forged ch m i x → v10 ≡ used_up ch.stage i

@@ -121,23 +121,13 @@ pub fn unknown_file(ins: u8, role: Role) -> bool
 fn is_never(access: Access) -> bool
     ensures { result ≡ is_never access }
 {
-    match access {
-        Access::Never => true,
-        Access::NotGranted => false,
-        Access::FreeOnly => false,
-        Access::ByKey => false,
-    }
+    access == Access::Never
 }
 
 fn is_not_granted(access: Access) -> bool
     ensures { result ≡ is_not_granted access }
 {
-    match access {
-        Access::Never => false,
-        Access::NotGranted => true,
-        Access::FreeOnly => false,
-        Access::ByKey => false,
-    }
+    access == Access::NotGranted
 }
 
 pub fn other_kind_or_never(ins: u8, role: Role, access: Access) -> bool

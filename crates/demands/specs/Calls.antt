@@ -1,6 +1,5 @@
 -- Runs of the card's methods, each call as its contract says.
-use Rattle.std.specs.Prelude.{ℕ, ◌≤◌, ◌<◌, true, false, List, [], ◌∷◌, ◌≡◌, length, take}
-use Rattle.access.specs.declared.Session.{Session}
+use Rattle.std.specs.Prelude.{ℕ, ◌≤◌, ◌<◌, true, false, List, [], ◌∷◌, ◌≡◌, length, take, Option}
 use Rattle.access.specs.Rights.{session_sound}
 use Rattle.card.specs.declared.Card.{Card}
 use Rattle.card.specs.declared.Reply.{Reply}
@@ -25,7 +24,7 @@ pub data Ran (d : Card) : Card → List Event → List Said → Type 0 where
   frames : {c : Card} {es : List Event} {ss : List Said} (b before after : List ℕ) (r : Reply) → reply_room ≤ length before
       → Answered (bytes_sent c b (length before)) before after r → Ran d r.card es ss → Ran d c (delivers b ∷ es) (seen r after ∷ ss)
   -- change_session to a key 0 to 4 or none
-  changes : {c : Card} {es : List Event} {ss : List Said} (k : Session) (known : session_sound k ≡ true) (r : Reply)
+  changes : {c : Card} {es : List Event} {ss : List Said} (k : Option ℕ) (known : session_sound k ≡ true) (r : Reply)
       → r ≡ reply_of (session_changed c k) → Ran d r.card es ss → Ran d c (session k known ∷ es) (seen r [] ∷ ss)
   -- power_up
   powers : {c : Card} {es : List Event} {ss : List Said} (r : Reply) → r ≡ reply_of (powered_up c) → Ran d r.card es ss → Ran d c (power ∷ es) (seen r [] ∷ ss)
@@ -36,5 +35,5 @@ pub data Ran (d : Card) : Card → List Event → List Said → Type 0 where
       → Answered (chain_opened c f (length before)) before after r → Ran d r.card es ss → Ran d c es ss
   short_frame : {c : Card} {es : List Event} {ss : List Said} (b before after : List ℕ) (r : Reply) → length before < reply_room
       → Answered (bytes_sent c b (length before)) before after r → Ran d r.card es ss → Ran d c es ss
-  unknown : {c : Card} {es : List Event} {ss : List Said} (k : Session) (r : Reply) → session_sound k ≡ false
+  unknown : {c : Card} {es : List Event} {ss : List Said} (k : Option ℕ) (r : Reply) → session_sound k ≡ false
       → r ≡ reply_of (session_changed c k) → Ran d r.card es ss → Ran d c es ss

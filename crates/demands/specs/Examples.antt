@@ -1,5 +1,5 @@
 -- Computed examples on the rules paper's card: no model that is idle, refuses all, has one reply or stops after one transaction.
-use Rattle.std.specs.Prelude.{ℕ, true, false, List, [], ◌∷◌, ◌≡◌, refl, pos, length, replicate}
+use Rattle.std.specs.Prelude.{ℕ, true, false, List, [], ◌∷◌, ◌≡◌, refl, pos, length, replicate, None}
 use Rattle.tables.specs.Choice.{pick}
 use Rattle.wire.specs.Bytes.{laid, laid_in, outside_of, le3, le4, word}
 use Rattle.datafiles.specs.Files as files
@@ -9,7 +9,6 @@ use Rattle.logfile.specs.Journal as journal
 use Rattle.logfile.specs.Ring as ring
 use Rattle.logfile.specs.View as log
 use Rattle.access.specs.Rights as access
-use Rattle.access.specs.declared.Session.TheVariants.{Nobody}
 use Rattle.frames.specs.Frame as frame
 use Rattle.settings.specs.declared.Settings.{Settings}
 use Rattle.columns.specs.Table as table
@@ -108,7 +107,7 @@ sales =
     ∷ sends 0x1C (3 ∷ 0x05 ∷ 0 ∷ 0 ∷ 0 ∷ [])
     ∷ sends 0x8B (1 ∷ 0x00 ∷ 0 ∷ 0 ∷ 0x01 ∷ 0 ∷ 0 ∷ 0xAA ∷ [])
     ∷ sends 0x8B (1 ∷ 0x0F ∷ 0 ∷ 0 ∷ 0x01 ∷ 0 ∷ 0 ∷ 0xBB ∷ [])
-    ∷ session Nobody refl
+    ∷ session None refl
     ∷ bare 0xC7
     ∷ sends 0xDC (3 ∷ 0x0A ∷ 0 ∷ 0 ∷ 0 ∷ [])
     ∷ power

@@ -1,7 +1,6 @@
 -- Histories of a card: the events, what the card answers to each, and what became of each.
-use Rattle.std.specs.Prelude.{ℕ, true, List, [], ◌∷◌, ◌≡◌, eqb, length}
+use Rattle.std.specs.Prelude.{ℕ, true, List, [], ◌∷◌, ◌≡◌, eqb, length, Option}
 use Rattle.tables.specs.Choice.{pick}
-use Rattle.access.specs.declared.Session.{Session}
 use Rattle.access.specs.Rights.{session_sound}
 use Rattle.roles.specs.declared.Role.{Role}
 use Rattle.frames.specs.Frame.{ins_of, data_of, offset_of, bytes_in, amount_of}
@@ -34,7 +33,7 @@ pub data Event : Type 0 where
   opens : List ℕ → Event
   -- a frame of file bytes
   delivers : List ℕ → Event
-  session : (k : Session) → session_sound k ≡ true → Event
+  session : (k : Option ℕ) → session_sound k ≡ true → Event
   power : Event
 
 -- what the definitions of demand 2 answer

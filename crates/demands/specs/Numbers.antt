@@ -1,8 +1,7 @@
 -- Own numbers, stated beside the demands: renumbering is invisible but for the number. The theorems renumbered and
 -- addressed prove it.
-use Rattle.std.specs.Prelude.{ℕ, Bool, true, false, List, [], ◌∷◌, map, ◌≡◌, length, take, drop}
+use Rattle.std.specs.Prelude.{ℕ, Bool, true, false, List, [], ◌∷◌, map, ◌≡◌, length, take, drop, Option}
 use Rattle.roles.specs.declared.Role.{Role}
-use Rattle.access.specs.declared.Session.{Session}
 use Rattle.access.specs.Rights.{session_sound}
 use Rattle.channel.specs.declared.Inputs.{Inputs}
 use Rattle.frames.specs.Frame.{ins_of, data_of, le_of, framed}
@@ -68,7 +67,7 @@ pub data Pair : Type 0 where
   commands : List ℕ → List ℕ → (u : Inputs) → Handed u → Pair
   openings : List ℕ → List ℕ → Pair
   file_bytes : List ℕ → Pair
-  session_change : (k : Session) → session_sound k ≡ true → Pair
+  session_change : (k : Option ℕ) → session_sound k ≡ true → Pair
   power_up : Pair
 
 abbrev pub left : Pair → Event

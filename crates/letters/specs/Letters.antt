@@ -1,9 +1,8 @@
 -- A line of a script that is no command: what it does, and the line that answers it.
-use Rattle.std.specs.Prelude.{ℕ, ◌+◌, ◌*◌, List, [], ◌∷◌, eqb, ltb, length, get_or}
+use Rattle.std.specs.Prelude.{ℕ, ◌+◌, ◌*◌, List, [], ◌∷◌, eqb, ltb, length, get_or, None, Some}
 use Rattle.tables.specs.Choice.{pick}
 use Rattle.wire.specs.Bytes.{part}
 use Rattle.channel.specs.declared.Inputs.{Inputs}
-use Rattle.access.specs.declared.Session.TheVariants.{Nobody, Key}
 use Rattle.card.specs.Outcome.{Outcome}
 use Rattle.card.specs.Events.{session_changed, powered_up, personalised}
 use Rattle.text.specs.Hex.{is_hex, spelt}
@@ -61,8 +60,8 @@ stored_told k = record { next = k; out = decimal k.stored }
 -- a line of this kind, and the bytes that its digits spell
 unfoldable pub lettered_by : Desk → Kind → List ℕ → Said Desk
 lettered_by k Order b = counted k (personalised (order_in b).settings (order_in b).keys (order_in b).value)
-lettered_by k NoSession b = counted k (session_changed k.card Nobody)
-lettered_by k Session b = counted k (session_changed k.card (Key (get_or b 0 0)))
+lettered_by k NoSession b = counted k (session_changed k.card None)
+lettered_by k Session b = counted k (session_changed k.card (Some (get_or b 0 0)))
 lettered_by k Room b = lent k (256 * get_or b 0 0 + get_or b 1 0)
 lettered_by k HandedIn b = handed k (inputs_in b)
 lettered_by k Opening b = replied k (opened_on k b)

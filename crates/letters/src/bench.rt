@@ -7,7 +7,6 @@ ghost use Rattle.lines.specs.Frames.{longest_line};
 ghost use Rattle.told.specs.Told.{said_of};
 ghost use Rattle.letters.specs.Letters.{counted, lent, inputs_in, handed, lettered_by, lettered};
 
-use access::Session;
 use card::Card;
 use channel::Inputs;
 use desk::{Desk, MOST_ROOM};
@@ -35,7 +34,7 @@ fn personalise(mut desk: Desk, b: &[u8]) -> Told
 }
 
 // S: a session change.
-fn change_session(mut desk: Desk, session: Session) -> Told
+fn change_session(mut desk: Desk, session: Option<u8>) -> Told
     ensures { said_of result ≡ counted desk (session_changed desk.card session) }
 {
     let card = desk.card;
@@ -99,8 +98,8 @@ fn say_kind(desk: Desk, kind: Kind, b: &[u8]) -> Told
 {
     match kind {
         Kind::Order => personalise(desk, b),
-        Kind::NoSession => change_session(desk, Session::Nobody),
-        Kind::Session => change_session(desk, Session::Key(wire::byte_at(b, 0))),
+        Kind::NoSession => change_session(desk, None),
+        Kind::Session => change_session(desk, Some(wire::byte_at(b, 0))),
         Kind::Room => lend(desk, length_in(b)),
         Kind::HandedIn => hand_in(desk, b),
         Kind::Opening => told::play(desk, true, b),

@@ -18,23 +18,13 @@ pub const MAC_SIZE: usize = 8;
 fn is_real(stage: Stage) -> bool
     ensures { result ≡ is_real stage }
 {
-    match stage {
-        Stage::Closed => false,
-        Stage::Bench(_) => false,
-        Stage::Waiting(_) => false,
-        Stage::Real(_, _) => true,
-    }
+    matches!(stage, Stage::Real(_, _))
 }
 
 fn is_free_only(access: Access) -> bool
     ensures { result ≡ is_free_only access }
 {
-    match access {
-        Access::Never => false,
-        Access::NotGranted => false,
-        Access::FreeOnly => true,
-        Access::ByKey => false,
-    }
+    access == Access::FreeOnly
 }
 
 // What the data field x names; an empty one names no file.

@@ -1,7 +1,7 @@
 -- A personalisation order in bytes. The files come in the order of Role: their rights, then lower limit, upper limit, starting
 -- value, switches, keys 0 to 4, modes, and the files' numbers. Bytes past the end count as 0: an order that ends behind the
 -- switches has zero keys and plain modes. One that ends before the numbers has the default ones (Laws).
-use Rattle.std.specs.Prelude.{ℕ, ◌+◌, ◌*◌, ◌%◌, ◌/◌, List, eqb, leb, ℤ, length, get_or, drop}
+use Rattle.std.specs.Prelude.{ℕ, ◌+◌, ◌*◌, ◌%◌, ◌/◌, List, [], ◌∷◌, eqb, leb, ℤ, length, get_or, drop}
 use Rattle.std.specs.Int.{w32}
 use Rattle.std.proofs.Common.{to_z}
 use Rattle.tables.specs.Choice.{pick}
@@ -31,7 +31,7 @@ unfoldable pub sixteen : List ℕ → ℕ → List ℕ
 sixteen b at = filled 16 (drop at b)
 
 unfoldable pub keys_in : List ℕ → Keys
-keys_in b = record { k0 = sixteen b 23; k1 = sixteen b 39; k2 = sixteen b 55; k3 = sixteen b 71; k4 = sixteen b 87 }
+keys_in b = record { all = sixteen b 23 ∷ sixteen b 39 ∷ sixteen b 55 ∷ sixteen b 71 ∷ sixteen b 87 ∷ [] }
 
 -- the place of the numbers
 abbrev pub numbers_at : ℕ

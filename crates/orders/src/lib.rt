@@ -55,11 +55,13 @@ fn keys_in(b: &[u8]) -> Keys
     ensures { result ≡ keys_in b.now }
 {
     Keys {
-        k0: sixteen_at(b, 23),
-        k1: sixteen_at(b, 39),
-        k2: sixteen_at(b, 55),
-        k3: sixteen_at(b, 71),
-        k4: sixteen_at(b, 87),
+        all: [
+            sixteen_at(b, 23),
+            sixteen_at(b, 39),
+            sixteen_at(b, 55),
+            sixteen_at(b, 71),
+            sixteen_at(b, 87),
+        ],
     }
 }
 

@@ -5,7 +5,7 @@ ghost use Rattle.std.specs.Prelude.{◌≡◌};
 ghost use Rattle.roles.specs.Roles.{place_of, is_data, is_value, is_log, is_file, size_of, default_number};
 
 // The two long data files, the short one, the value file, the log; and what a number names that no file of the card has.
-#[derive(Clone, Copy)]
+#[derive(Clone, Copy, PartialEq, Eq)]
 pub enum Role {
     FirstLong,
     SecondLong,
@@ -38,53 +38,25 @@ impl Role {
     pub fn is_data(self) -> bool
         ensures { result ≡ is_data self }
     {
-        match self {
-            Role::FirstLong => true,
-            Role::SecondLong => true,
-            Role::ShortData => true,
-            Role::ValueFile => false,
-            Role::LogFile => false,
-            Role::NoFile => false,
-        }
+        matches!(self, Role::FirstLong | Role::SecondLong | Role::ShortData)
     }
 
     pub fn is_value(self) -> bool
         ensures { result ≡ is_value self }
     {
-        match self {
-            Role::FirstLong => false,
-            Role::SecondLong => false,
-            Role::ShortData => false,
-            Role::ValueFile => true,
-            Role::LogFile => false,
-            Role::NoFile => false,
-        }
+        matches!(self, Role::ValueFile)
     }
 
     pub fn is_log(self) -> bool
         ensures { result ≡ is_log self }
     {
-        match self {
-            Role::FirstLong => false,
-            Role::SecondLong => false,
-            Role::ShortData => false,
-            Role::ValueFile => false,
-            Role::LogFile => true,
-            Role::NoFile => false,
-        }
+        matches!(self, Role::LogFile)
     }
 
     pub fn is_file(self) -> bool
         ensures { result ≡ is_file self }
     {
-        match self {
-            Role::FirstLong => true,
-            Role::SecondLong => true,
-            Role::ShortData => true,
-            Role::ValueFile => true,
-            Role::LogFile => true,
-            Role::NoFile => false,
-        }
+        !matches!(self, Role::NoFile)
     }
 
     // The room of a data file; 0 for all else.
@@ -92,12 +64,9 @@ impl Role {
         ensures { result ≡ size_of self }
     {
         match self {
-            Role::FirstLong => Role::LONG,
-            Role::SecondLong => Role::LONG,
+            Role::FirstLong | Role::SecondLong => Role::LONG,
             Role::ShortData => Role::SHORT,
-            Role::ValueFile => 0,
-            Role::LogFile => 0,
-            Role::NoFile => 0,
+            Role::ValueFile | Role::LogFile | Role::NoFile => 0,
         }
     }
 

@@ -1,9 +1,8 @@
 -- Through which door a command is granted changes no status.
-use Rattle.std.specs.Prelude.{ℕ, Bool, ◌&&◌, List, ◌≡◌, eqb}
+use Rattle.std.specs.Prelude.{ℕ, Bool, ◌&&◌, List, ◌≡◌, eqb, Option}
 use Rattle.tables.specs.Reasons.{first}
 use Rattle.roles.specs.declared.Role.{Role}
 use Rattle.access.specs.declared.Access.{Access}
-use Rattle.access.specs.declared.Session.{Session}
 use Rattle.access.specs.Doors.{undivided, same_status}
 use Rattle.columns.specs.Table.{get_value, by_read, by_write}
 use Rattle.frames.specs.Frame.{ins_of, data_of}
@@ -15,7 +14,7 @@ use Rattle.modes.specs.Modes.{role_in, plain_of}
 use Rattle.rows.specs.Rows.{other_kind_or_never, not_granted, carries_mac, rows_under, rows_for, ok, status_for}
 
 -- access as the paper decides it, every grant told as one
-unfoldable pub undivided_to : Settings → Session → ℕ → Role → Access
+unfoldable pub undivided_to : Settings → Option ℕ → ℕ → Role → Access
 undivided_to s k i r = undivided (rights_of s r) k (by_read i) (by_write i) (eqb i get_value && s.free)
 
 -- the status by that; which commands carry a MAC is told by the door, as request 06 asks

@@ -1,10 +1,9 @@
 -- What personalisation fixes, which file a number names, and what is granted.
-use Rattle.std.specs.Prelude.{ℕ, Bool, false, not, ◌&&◌, List, [], ◌∷◌, ◌++◌, map, eqb, ltb}
+use Rattle.std.specs.Prelude.{ℕ, Bool, false, not, ◌&&◌, List, [], ◌∷◌, ◌++◌, map, eqb, ltb, Option}
 use Rattle.tables.specs.Choice.{pick, any}
 use Rattle.roles.specs.declared.Role.{Role}
 use Rattle.roles.specs.declared.Role.TheVariants.{FirstLong, SecondLong, ShortData, ValueFile, LogFile, NoFile}
 use Rattle.roles.specs.Roles.{default_number}
-use Rattle.access.specs.declared.Session.{Session}
 use Rattle.access.specs.declared.Access.{Access}
 use Rattle.access.specs.Rights.{access_of, rights_sound}
 use Rattle.columns.specs.Table.{by_read, by_write, get_value}
@@ -70,11 +69,11 @@ abbrev pub nothing : Named
 nothing = record { role = NoFile; file = absent }
 
 -- may the command i be used on a file with these rights, and through which door; free GetValue is a free condition for that command
-abbrev pub access_by : Settings → ℕ → Session → ℕ → Access
+abbrev pub access_by : Settings → ℕ → Option ℕ → ℕ → Access
 access_by s rights k i = access_of rights k (by_read i) (by_write i) (eqb i get_value && s.free)
 
 -- on the file of role r
-unfoldable pub access_to : Settings → Session → ℕ → Role → Access
+unfoldable pub access_to : Settings → Option ℕ → ℕ → Role → Access
 access_to s k i r = access_by s (rights_of s r) k i
 
 -- ---- what an order must not have

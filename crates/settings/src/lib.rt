@@ -4,7 +4,7 @@
 ghost use Rattle.std.specs.Prelude.{◌≡◌};
 ghost use Rattle.settings.specs.Settings.{unchosen, absent, alike, file_at, role_of, named_by, nothing, access_by, rights_broken, number_above, number_twice};
 
-use access::{Access, Session};
+use access::Access;
 use columns::{Row, table};
 use limits::Limits;
 use roles::Role;
@@ -147,7 +147,7 @@ impl Settings {
     }
 
     // Whether the command may be used on a file with these rights under this session.
-    pub fn access_by(self, rights: u16, session: Session, ins: u8) -> Access
+    pub fn access_by(self, rights: u16, session: Option<u8>, ins: u8) -> Access
         ensures { result ≡ access_by self rights session ins }
     {
         let row = Row::of_command(ins);

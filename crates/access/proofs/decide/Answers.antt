@@ -10,14 +10,14 @@ returns-then-sealed c = hit _ _ _ (sym c.is_sealed-sealed.ensures ∙ c.if-seale
 pub returns-then-key : goal.returns-then-key
 unfolding access_of
 returns-then-key c =
-    skip _ _ _ (sym c.is_sealed-sealed.ensures ∙ c.if-sealed.false) (hit _ _ _ (simp c.key.ensures at (sym c.is_granting-key.ensures ∙ c.if-key.true)) refl)
+    skip _ _ _ (sym c.is_sealed-sealed.ensures ∙ c.if-sealed.false) (hit _ _ _ (simp c.key_of.ensures at (sym c.is_granting-key.ensures ∙ c.if-key.true)) refl)
 
 pub returns-then-freely-free : goal.returns-then-freely-free
 unfolding access_of
 returns-then-freely-free c =
-    skip _ _ _ (sym c.is_sealed-sealed.ensures ∙ c.if-sealed.false) (skip _ _ _ (simp c.key.ensures at (sym c.is_granting-key.ensures ∙ c.if-key.false)) (hit _ _ _ (simp c.is_granting-free.ensures at c.if-freely-free.true) refl))
+    skip _ _ _ (sym c.is_sealed-sealed.ensures ∙ c.if-sealed.false) (skip _ _ _ (simp c.key_of.ensures at (sym c.is_granting-key.ensures ∙ c.if-key.false)) (hit _ _ _ (simp c.is_granting-free.ensures at c.if-freely-free.true) refl))
 
 pub returns : goal.returns
 unfolding access_of
 returns c =
-    skip _ _ _ (sym c.is_sealed-sealed.ensures ∙ c.if-sealed.false) (skip _ _ _ (simp c.key.ensures at (sym c.is_granting-key.ensures ∙ c.if-key.false)) (skip _ _ _ (simp c.is_granting-free.ensures at c.if-freely-free.false) refl))
+    skip _ _ _ (sym c.is_sealed-sealed.ensures ∙ c.if-sealed.false) (skip _ _ _ (simp c.key_of.ensures at (sym c.is_granting-key.ensures ∙ c.if-key.false)) (skip _ _ _ (simp c.is_granting-free.ensures at c.if-freely-free.false) refl))

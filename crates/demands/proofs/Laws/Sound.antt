@@ -1,5 +1,5 @@
 -- The standing rules of a state, with the sizes of its files and entries, and that every step keeps them.
-use Rattle.std.specs.Prelude.{ℕ, Bool, true, false, ◌&&◌, List, ◌≡◌, drop}
+use Rattle.std.specs.Prelude.{ℕ, Bool, true, false, ◌&&◌, List, ◌≡◌, drop, Option}
 use Rattle.std.proofs.Math.Bool.{or-true}
 use Rattle.std.proofs.Math.Path.{refl}
 use Rattle.std.proofs.Common.{subst, eqb-true}
@@ -17,7 +17,6 @@ use Rattle.logfile.specs.Journal.{Journal}
 use Rattle.logfile.specs.Journal as journal
 use Rattle.logfile.specs.Fit.{Fit}
 use Rattle.logfile.proofs.FitLaws.{fit_written, fit_cleared, fit_settled, fit_dropped}
-use Rattle.access.specs.declared.Session.{Session}
 use Rattle.wire.specs.Listed.{length_filled}
 use Rattle.chains.specs.Chain.{unchained}
 use Rattle.chains.specs.Laws.{none_sound}
@@ -143,6 +142,6 @@ ended_sound s h =
       files = h.files;
     }
 
-pub session_sound_lem : (s : State) (k : Session) → Sound s → session_sound k ≡ true → Sound (with_session s k)
+pub session_sound_lem : (s : State) (k : Option ℕ) → Sound s → session_sound k ≡ true → Sound (with_session s k)
 unfolding with_session
 session_sound_lem s k h e = record { rights = h.rights; limits = h.limits; above = h.above; twice = h.twice; channel = bare_fitting (stage_of k) (bench_sound k e); figures = h.figures; journal = h.journal; apart = h.apart; files = h.files }

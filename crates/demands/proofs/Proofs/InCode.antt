@@ -1,11 +1,10 @@
 -- What the methods return along a run is what the definitions say.
-use Rattle.std.specs.Prelude.{ℕ, ◌+◌, ◌≤◌, true, false, List, [], ◌∷◌, ◌≡◌, refl, ℤ, length, take, drop, replicate}
+use Rattle.std.specs.Prelude.{ℕ, ◌+◌, ◌≤◌, true, false, List, [], ◌∷◌, ◌≡◌, refl, ℤ, length, take, drop, replicate, Option}
 use Rattle.std.proofs.Common.{sym, ◌∙◌, subst, arith, eq-eqb, take_at}
 use Rattle.std.proofs.Math.Path.{ap}
 use Rattle.tables.specs.Choice.{picked, not_yes}
 use Rattle.wire.specs.Bytes.{laid}
 use Rattle.wire.proofs.Laws.{laid_none}
-use Rattle.access.specs.declared.Session.{Session}
 use Rattle.access.specs.Rights.{session_sound}
 use Rattle.keys.specs.declared.Keys.{Keys}
 use Rattle.settings.specs.declared.Settings.{Settings}
@@ -56,7 +55,7 @@ unfolding reply_of
 kept_after c h e before after r a = subst (λ (k : Card). Kept k) (sym (ap (λ (y : Reply). y.card) a.0)) (next_kept c h e)
 
 -- session change and power-up write nothing
-session_answers : (c : Card) → Kept c → (k : Session) (known : session_sound k ≡ true) (r : Reply) → r ≡ reply_of (session_changed c k) → Answered (outcome c (session k known)) [] [] r
+session_answers : (c : Card) → Kept c → (k : Option ℕ) (known : session_sound k ≡ true) (r : Reply) → r ≡ reply_of (session_changed c k) → Answered (outcome c (session k known)) [] [] r
 unfolding outcome
 session_answers c h k known r q = (q, rw (silent) (laid_none []))
   where
@@ -72,7 +71,7 @@ power_answers c h r q = (q, rw (silent) (laid_none []))
 
 -- the bench refusals return the card as it was
 
-unknown_same : (c : Card) (k : Session) (r : Reply) → session_sound k ≡ false → r ≡ reply_of (session_changed c k) → r.card ≡ c
+unknown_same : (c : Card) (k : Option ℕ) (r : Reply) → session_sound k ≡ false → r ≡ reply_of (session_changed c k) → r.card ≡ c
 unknown_same c k r e q = ap (λ (y : Reply). y.card) (q ∙ sym (session_unknown c k (not_yes _ e)))
 
 follows_from : (c k : Card) (es : List Event) (ss : List Said) (d : Card) → k ≡ c → Follows k es ss d → Follows c es ss d
@@ -127,7 +126,7 @@ in_code s ks v r es ss d q z ran =
 
 -- ---- every history has a run, so the theorem speaks of all of them
 
-session_silent : (c : Card) → Kept c → (k : Session) (known : session_sound k ≡ true) → seen (reply_of (session_changed c k)) [] ≡ said c (session k known)
+session_silent : (c : Card) → Kept c → (k : Option ℕ) (known : session_sound k ≡ true) → seen (reply_of (session_changed c k)) [] ≡ said c (session k known)
 unfolding said reply_of outcome
 session_silent c h k known = seen_answered (session_changed c k) [] [] _ (session_answers c h k known _ refl)
 

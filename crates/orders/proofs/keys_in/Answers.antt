@@ -1,11 +1,11 @@
 use Rattle.keys.specs.declared.Keys.{Keys}
-use mathlib.Core.List.{List}
+use mathlib.Core.List.{List, [], ◌∷◌}
 use Prim.Native.Nat.{ℕ}
 use Rattle.orders.specs.Order.{keys_in}
 use Rattle.orders.proofs.keys_in.Goals as goal
 
 abbrev keys_of : List ℕ → List ℕ → List ℕ → List ℕ → List ℕ → Keys
-keys_of a b c d e = record { k0 = a; k1 = b; k2 = c; k3 = d; k4 = e }
+keys_of a b c d e = record { all = a ∷ b ∷ c ∷ d ∷ e ∷ [] }
 
 pub returns : goal.returns
 unfolding keys_in

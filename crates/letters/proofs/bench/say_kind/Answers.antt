@@ -1,4 +1,4 @@
-use Rattle.access.specs.declared.Session.TheVariants.{Key}
+use Rattle.std.specs.Prelude.{Some}
 use Rattle.kinds.specs.declared.Kind.TheVariants.{Order, NoSession, Session, Room, HandedIn, Opening, FileBytes, Books, Count, Unread}
 use Rattle.card.specs.Events.{session_changed}
 use Rattle.notices.specs.Notices.{notice_text}
@@ -22,7 +22,7 @@ returns-in-NoSession c = let e : c.args.kind ≡ NoSession = search rules in rw 
 
 pub returns-in-Session : goal.returns-in-Session
 unfolding lettered_by
-returns-in-Session c = let e : c.args.kind ≡ Session = search rules in rw e (c.change_session-in-Session.ensures ∙ ap (λ b. counted c.args.desk (session_changed c.args.desk.card (Key b))) c.byte_at.ensures)
+returns-in-Session c = let e : c.args.kind ≡ Session = search rules in rw e (c.change_session-in-Session.ensures ∙ ap (λ b. counted c.args.desk (session_changed c.args.desk.card (Some b))) c.byte_at.ensures)
 
 pub returns-in-Room : goal.returns-in-Room
 unfolding lettered_by
