@@ -211,9 +211,9 @@ module _ (c : Card) (f : List ℕ) (u : Inputs) where
 
   -- with room for a reply, on a card that breaks no rule; k is the card after
   module _ (b : List ℕ) (h : reply_room ≤ length b) (w : broken c ≡ false) where
-    pub command_refused : {b₂ : List ℕ} {k : Card} {n : ℕ} (s : ℕ) → s ≡ status_of (view c).core f → (s ≡ ok → ⊥) → k ≡ put c 0 (ended (view c))
-        → b₂ ≡ laid_in b 0 (word s) → n ≡ 0 + 2 → Answered (commanded c f u (length b)) b b₂ (reply k 0 n)
-    command_refused s es n ek e q = answered_as _ _ _ _ _ (plays_refused s es n ∙ command_plays _ h w) (refused_answers c s b h ek e q)
+    pub command_refused : {b₂ : List ℕ} {r : Reply} (s : ℕ) → s ≡ status_of (view c).core f → (s ≡ ok → ⊥) → Answered (laid_into c (refused (view c) s)) b b₂ r
+        → Answered (commanded c f u (length b)) b b₂ r
+    command_refused s es n y = answered_as _ _ _ _ _ (plays_refused s es n ∙ command_plays _ h w) y
 
     -- m, r, i and d are whether it has a MAC, the role of the file, its command and its data field without the MAC, as the code has them
     module _ (s : status_of (view c).core f ≡ ok) {m : Bool} {r : Role} {i : ℕ} {x d : List ℕ} (em : m ≡ maced_in (view c).core (ins_of f) (data_of f))
@@ -285,10 +285,10 @@ module _ (c : Card) (f : List ℕ) (b : List ℕ) (h : reply_room ≤ length b) 
 
 -- a frame x of file bytes
 module _ (c : Card) (x : List ℕ) (b : List ℕ) (h : reply_room ≤ length b) (w : broken c ≡ false) where
-  pub bytes_answered : {b₂ : List ℕ} {r : Reply} {s : ℕ} → s ≡ bytes_status c.channel.chain x → s ≡ ok → Answered (laid_into c (delivered (view c) x)) b b₂ r
+  pub bytes_answered : {b₂ : List ℕ} {r : Reply} → bytes_status c.channel.chain x ≡ ok → Answered (laid_into c (delivered (view c) x)) b b₂ r
       → Answered (bytes_sent c x (length b)) b b₂ r
   unfolding bytes_sent bytes_played view
-  bytes_answered e s y = answered_as _ _ _ _ _ (judged_accepted c _ _ (sym e ∙ s) ∙ bench_plays c (length b) _ h w) y
+  bytes_answered s y = answered_as _ _ _ _ _ (judged_accepted c _ _ s ∙ bench_plays c (length b) _ h w) y
 
   pub bytes_refused : {b₂ : List ℕ} {r : Reply} (s : ℕ) → s ≡ bytes_status c.channel.chain x → (s ≡ ok → ⊥) → Answered (laid_into c (refused (view c) s)) b b₂ r
       → Answered (bytes_sent c x (length b)) b b₂ r

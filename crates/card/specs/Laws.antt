@@ -1,8 +1,5 @@
 -- Laws of the card's parts and events, as the code goes through them.
 use Rattle.std.specs.Prelude.{ℕ}
-use Rattle.logfile.specs.View as log
-use Rattle.logfile.proofs.Laws as logfile
-use Rattle.datafiles.specs.Files as files
 use Rattle.card.specs.declared.Card.{Card}
 use Rattle.card.specs.declared.Reply.{Reply}
 

@@ -3,20 +3,22 @@ ghost use Rattle.std.specs.Prelude.{[], ◌≤◌, length};
 ghost use Rattle.tables.specs.Choice.{pick};
 ghost use Rattle.wire.specs.Bytes.{word, Shows};
 ghost use Rattle.rows.specs.Rows.{ok};
+ghost use Rattle.checks.specs.Order.{word_of};
 ghost use Rattle.card.specs.View.{view};
 ghost use Rattle.card.specs.Outcome.{Answered};
 ghost use Rattle.card.specs.Events.{refused, laid_into, reply_room, chain_opened, delivered, bytes_sent};
 
 use super::{Card, Reply};
 use chains::Chain;
+use checks::Status;
 
 impl Card {
     // A refusal with this status.
-    fn refuse(self, status: u16, reply: &mut [u8]) -> Reply
+    pub(crate) fn refuse(self, status: Status, reply: &mut [u8]) -> Reply
         requires { reply_room ≤ length reply.old }
-        ensures { Answered (laid_into self (refused (view self) status)) reply.old reply.new result }
+        ensures { Answered (laid_into self (refused (view self) (word_of status))) reply.old reply.new result }
     {
-        let len = Card::say(status, reply);
+        let len = Card::say(status.word(), reply);
         let card = self.ended();
         Reply {
             card,
@@ -46,12 +48,11 @@ impl Card {
                 len: 0,
             };
         }
-        let checked = checks::check(true, settings, keys, purse, log, channel, frame);
-        let status = checked.status;
-        if status != Card::OK {
-            return self.refuse(status, reply);
-        }
-        let role = checked.role;
+        let admitted = match checks::check(true, settings, keys, purse, log, channel, frame) {
+            Ok(admitted) => admitted,
+            Err(status) => return self.refuse(status, reply),
+        };
+        let role = admitted.role;
         let next = channel.chained(Chain::announced(role, frames::data(frame)));
         let card = self.on_channel(next);
         Reply {
@@ -124,10 +125,9 @@ impl Card {
                 len: 0,
             };
         }
-        let status = checks::check_bytes(chain, bytes);
-        if status != Card::OK {
-            return self.refuse(status, reply);
+        match checks::check_bytes(chain, bytes) {
+            Ok(_) => self.deliver(bytes, reply),
+            Err(status) => self.refuse(status, reply),
         }
-        self.deliver(bytes, reply)
     }
 }

@@ -140,20 +140,12 @@ impl Card {
                 len: 0,
             };
         }
-        let checked = checks::check(false, settings, keys, purse, log, channel, frame);
-        let status = checked.status;
-        if status != Card::OK {
-            let len = Card::say(status, reply);
-            let card = self.ended();
-            return Reply {
-                card,
-                refusal: 0,
-                stored: 0,
-                len,
-            };
-        }
-        let maced = checked.maced;
-        let role = checked.role;
+        let admitted = match checks::check(false, settings, keys, purse, log, channel, frame) {
+            Ok(admitted) => admitted,
+            Err(status) => return self.refuse(status, reply),
+        };
+        let maced = admitted.maced;
+        let role = admitted.role;
         let ins = wire::byte_at(frame, 1);
         let d = modes::plain(maced, frames::data(frame));
         if ins == table::AUTHENTICATE_FIRST {

@@ -14,6 +14,7 @@ ghost use Rattle.card.specs.Events.{ended, bench_refusal, session_changed, power
 
 use chains::Chain;
 use channel::{Channel, Stage};
+use checks::Status;
 use datafiles::Files;
 use keys::Keys;
 use logfile::Log;
@@ -53,31 +54,31 @@ impl Card {
 
     pub const SECOND_PART: u16 = 0x91AF;
 
-    pub const WRONG_LENGTH: u16 = checks::WRONG_LENGTH;
+    pub const WRONG_LENGTH: u16 = Status::WrongLength as u16;
 
-    pub const WRONG_CLASS: u16 = checks::WRONG_CLASS;
+    pub const WRONG_CLASS: u16 = Status::WrongClass as u16;
 
-    pub const WRONG_PARAMETERS: u16 = checks::WRONG_PARAMETERS;
+    pub const WRONG_PARAMETERS: u16 = Status::WrongParameters as u16;
 
-    pub const UNKNOWN_COMMAND: u16 = checks::UNKNOWN_COMMAND;
+    pub const UNKNOWN_COMMAND: u16 = Status::UnknownCommand as u16;
 
-    pub const ABORTED: u16 = checks::ABORTED;
+    pub const ABORTED: u16 = Status::Aborted as u16;
 
-    pub const DATA_LENGTH: u16 = checks::DATA_LENGTH;
+    pub const DATA_LENGTH: u16 = Status::DataLength as u16;
 
-    pub const NO_SUCH_FILE: u16 = checks::NO_SUCH_FILE;
+    pub const NO_SUCH_FILE: u16 = Status::NoSuchFile as u16;
 
-    pub const DENIED: u16 = checks::DENIED;
+    pub const DENIED: u16 = Status::Denied as u16;
 
-    pub const NOT_GRANTED: u16 = checks::NOT_GRANTED;
+    pub const NOT_GRANTED: u16 = Status::NotGranted as u16;
 
-    pub const INTEGRITY: u16 = checks::INTEGRITY;
+    pub const INTEGRITY: u16 = Status::Integrity as u16;
 
-    pub const BAD_PARAMETER: u16 = checks::BAD_PARAMETER;
+    pub const BAD_PARAMETER: u16 = Status::BadParameter as u16;
 
-    pub const OUTSIDE: u16 = checks::OUTSIDE;
+    pub const OUTSIDE: u16 = Status::Outside as u16;
 
-    pub const NOTHING_PENDING: u16 = checks::NOTHING_PENDING;
+    pub const NOTHING_PENDING: u16 = Status::NothingPending as u16;
 
     // The bench refusal of an event with a reply buffer of this room, or 0, on a card of these parts.
     fn bench_refusal(

@@ -1,10 +1,10 @@
 // The order of checks: the first reason that applies names the status.
 #![tactic(auto)]
 
-ghost use Rattle.std.specs.Prelude.{◌≡◌};
+ghost use Rattle.std.specs.Prelude.{◌≡◌, IfOk};
 ghost use Rattle.rows.specs.State.{core_of};
-ghost use Rattle.rows.specs.Rows.{bytes_status};
-ghost use Rattle.checks.specs.Order.{frame_order, command_order, checked_of};
+ghost use Rattle.rows.specs.Rows.{status_for, bytes_status};
+ghost use Rattle.checks.specs.Order.{word_of, told, frame_order, in_order, admitted_of};
 
 use chains::Chain;
 use channel::Channel;
@@ -16,117 +16,73 @@ use purse::Purse;
 use roles::Role;
 use settings::Settings;
 
-// The status words, each with the place that gives it in the order below.
+// The status word of an accepted event.
 pub const OK: u16 = 0x9100;
 
-pub const WRONG_LENGTH: u16 = 0x6700;
+// A refusal by its status word.
+#[derive(Clone, Copy, PartialEq, Eq, Debug)]
+pub enum Status {
+    WrongLength = 0x6700,
+    WrongClass = 0x6E00,
+    WrongParameters = 0x6A86,
+    UnknownCommand = 0x911C,
+    Aborted = 0x91CA,
+    DataLength = 0x917E,
+    NoSuchFile = 0x91F0,
+    Denied = 0x919D,
+    NotGranted = 0x91AE,
+    Integrity = 0x911E,
+    BadParameter = 0x919E,
+    Outside = 0x91BE,
+    NothingPending = 0x910C,
+}
 
-pub const WRONG_CLASS: u16 = 0x6E00;
+impl Status {
+    // The status word.
+    pub fn word(self) -> u16
+        ensures { result ≡ word_of self }
+    {
+        self as u16
+    }
+}
 
-pub const WRONG_PARAMETERS: u16 = 0x6A86;
-
-pub const UNKNOWN_COMMAND: u16 = 0x911C;
-
-pub const ABORTED: u16 = 0x91CA;
-
-pub const DATA_LENGTH: u16 = 0x917E;
-
-pub const NO_SUCH_FILE: u16 = 0x91F0;
-
-pub const DENIED: u16 = 0x919D;
-
-pub const NOT_GRANTED: u16 = 0x91AE;
-
-pub const INTEGRITY: u16 = 0x911E;
-
-pub const BAD_PARAMETER: u16 = 0x919E;
-
-pub const OUTSIDE: u16 = 0x91BE;
-
-pub const NOTHING_PENDING: u16 = 0x910C;
-
-// What the order of checks leaves: the status, and for an accepted command whether it carries a MAC and the role of the file that
-// it names.
+// What an accepted frame's command takes on: whether it carries a MAC, and the role of the file that it names.
 #[derive(Clone, Copy)]
-pub struct Checked {
-    pub status: u16,
+pub struct Admitted {
     pub maced: bool,
     pub role: Role,
 }
 
 // Places 1 to 4: the first that applies names the status.
-fn frame_order(size: bool, class: bool, parameters: bool, frame: bool) -> u16
-    ensures { result ≡ frame_order size class parameters frame }
+fn frame_order(faults: Faults) -> Result<(), Status>
+    ensures { told result ≡ frame_order faults.size faults.class faults.parameters faults.frame }
 {
-    if size {
-        return WRONG_LENGTH;
-    }
-    if class {
-        return WRONG_CLASS;
-    }
-    if parameters {
-        return WRONG_PARAMETERS;
-    }
-    if frame {
-        return WRONG_LENGTH;
-    }
-    OK
+    reasons::first(&[
+        (faults.size, Status::WrongLength),
+        (faults.class, Status::WrongClass),
+        (faults.parameters, Status::WrongParameters),
+        (faults.frame, Status::WrongLength),
+    ])
 }
 
 // Places 5 to 13.
-fn command_order(
-    command: bool,
-    waits: bool,
-    length: bool,
-    file: bool,
-    kind: bool,
-    grant: bool,
-    chain: bool,
-    seal: bool,
-    off: bool,
-    value: bool,
-    range: bool,
-    nothing: bool,
-) -> u16
-    ensures { result ≡ command_order command waits length file kind grant chain seal off value range nothing }
+fn command_order(places: Places) -> Result<(), Status>
+    ensures { told result ≡ in_order places }
 {
-    if command {
-        return UNKNOWN_COMMAND;
-    }
-    if waits {
-        return ABORTED;
-    }
-    if length {
-        return DATA_LENGTH;
-    }
-    if file {
-        return NO_SUCH_FILE;
-    }
-    if kind {
-        return DENIED;
-    }
-    if grant {
-        return NOT_GRANTED;
-    }
-    if chain {
-        return DENIED;
-    }
-    if seal {
-        return INTEGRITY;
-    }
-    if off {
-        return DENIED;
-    }
-    if value {
-        return BAD_PARAMETER;
-    }
-    if range {
-        return OUTSIDE;
-    }
-    if nothing {
-        return NOTHING_PENDING;
-    }
-    OK
+    reasons::first(&[
+        (places.command, Status::UnknownCommand),
+        (places.waits, Status::Aborted),
+        (places.length, Status::DataLength),
+        (places.file, Status::NoSuchFile),
+        (places.kind, Status::Denied),
+        (places.grant, Status::NotGranted),
+        (places.chain, Status::Denied),
+        (places.seal, Status::Integrity),
+        (places.off, Status::Denied),
+        (places.value, Status::BadParameter),
+        (places.range, Status::Outside),
+        (places.nothing, Status::NothingPending),
+    ])
 }
 
 // A frame through the order of checks, as a command or as the opening of a chain.
@@ -138,43 +94,26 @@ pub fn check(
     log: Log,
     channel: Channel,
     frame: &[u8],
-) -> Checked
-    ensures { result ≡ checked_of opening (core_of settings keys purse log channel) frame.now }
+) -> Result<Admitted, Status>
+    ensures status { told result ≡ status_for opening (core_of settings keys purse log channel) frame.now }
+    ensures admitted { IfOk result (λ a. a ≡ admitted_of opening (core_of settings keys purse log channel) frame.now) }
 {
-    let f = Faults::asked(frame);
-    let s = frame_order(f.size, f.class, f.parameters, f.frame);
-    if s != OK {
-        return Checked {
-            status: s,
-            maced: false,
-            role: Role::NoFile,
-        };
-    }
+    frame_order(Faults::asked(frame))?;
     let ins = wire::byte_at(frame, 1);
     let x = frames::data(frame);
-    let p = Places::asked(opening, settings, keys, purse, log, channel, ins, x);
-    let status = command_order(
-        p.command, p.waits, p.length, p.file, p.kind, p.grant, p.chain, p.seal, p.off, p.value,
-        p.range, p.nothing,
-    );
-    let maced = p.maced;
-    let role = p.role;
-    Checked {
-        status,
-        maced,
-        role,
-    }
+    let places = Places::asked(opening, settings, keys, purse, log, channel, ins, x);
+    command_order(places)?;
+    let maced = places.maced;
+    let role = places.role;
+    Ok(Admitted { maced, role })
 }
 
-// The status of a frame of file bytes: the first of its two reasons, or OK.
-pub fn check_bytes(chain: Chain, bytes: &[u8]) -> u16
-    ensures { result ≡ bytes_status chain bytes.now }
+// A frame of file bytes: the first of its two reasons.
+pub fn check_bytes(chain: Chain, bytes: &[u8]) -> Result<(), Status>
+    ensures { told result ≡ bytes_status chain bytes.now }
 {
-    if chain.left == 0 {
-        return UNKNOWN_COMMAND;
-    }
-    if chain.is_wrong(bytes.len()) {
-        return DATA_LENGTH;
-    }
-    OK
+    reasons::first(&[
+        (chain.left == 0, Status::UnknownCommand),
+        (chain.is_wrong(bytes.len()), Status::DataLength),
+    ])
 }

@@ -5,7 +5,8 @@ use Rattle.card.specs.Events.{reply_room}
 use Rattle.card.specs.Accepted.{Granted}
 use Rattle.card.proofs.Laws.{bench_answers, answered_as, no_bench, command_bench, command_refused, command_granted, command_accepts, command_part, command_quiet, begins_plain, opens_plain, opens_long, moved, wrote, write_stores_none}
 use Rattle.card.specs.Sealing.{Sealed, sealed_plain}
-use Rattle.checks.proofs.Order.{status_told, maced_told, role_told}
+use Rattle.checks.specs.declared.Admitted.{Admitted}
+use Rattle.checks.proofs.Order.{word_not_ok}
 use Rattle.card.specs.View.{view, broken}
 use Rattle.channel.specs.declared.Inputs.{Inputs}
 use Rattle.rows.specs.Rows.{ok, maced_in, status_of}
@@ -20,9 +21,13 @@ use mathlib.Core.List.{List}
 use mathlib.Core.Path.{◌≡◌, sym, ap, ◌∙◌}
 use native.Mathlib.Omega.{arith}
 use Rattle.card.proofs.Card.command.Goals as goal
-use Rattle.card.proofs.Card.command.Goals.{After-plain-d, Joined-maced, then-maced, else-maced}
+use Rattle.card.proofs.Card.command.Goals.{Else-bench-ne0, After-plain-d, Joined-maced, then-maced, else-maced}
 
--- what the code knows where there is no bench refusal, and no reason of the table applies
+-- there is no bench refusal
+unbenched : (k : Else-bench-ne0) → (reply_room ≤ length k.args.reply.now) × (broken k.args.self ≡ false)
+unbenched k = no_bench k.args.self _ k.bench_refusal-bench.ensures k.if-bench-ne0.false
+
+-- what the code knows where no reason of the table applies either
 module _ (p : After-plain-d) where
   abbrev card : Card
   card = p.args.self
@@ -47,17 +52,17 @@ module _ (p : After-plain-d) where
 
   taken : status_of (view card).core frame ≡ ok
   unfolding view
-  taken = sym (status_told _ _ _ p.check-checked.ensures) ∙ p.if-status.false
+  taken = sym p.in-Ok.ensures.status
 
-  maced : p.check-checked.result.maced ≡ maced_in (view card).core (ins_of frame) (data_of frame)
+  maced : p.in-Ok.admitted.maced ≡ maced_in (view card).core (ins_of frame) (data_of frame)
   unfolding view
-  maced = maced_told _ _ _ p.check-checked.ensures taken
+  maced = ap (λ (a : Admitted). a.maced) p.in-Ok.ensures.admitted
 
-  role : p.check-checked.result.role ≡ role_in (view card).core.settings (data_of frame)
+  role : p.in-Ok.admitted.role ≡ role_in (view card).core.settings (data_of frame)
   unfolding view
-  role = role_told _ _ _ p.check-checked.ensures taken
+  role = ap (λ (a : Admitted). a.role) p.in-Ok.ensures.admitted
 
-  granted : Granted (view card).core p.check-checked.result.maced p.byte_at-ins.result p.check-checked.result.role p.plain-d.result.now
+  granted : Granted (view card).core p.in-Ok.admitted.maced p.byte_at-ins.result p.in-Ok.admitted.role p.plain-d.result.now
   granted = command_granted card frame inputs buffer room sound taken maced role p.byte_at-ins.ensures p.data.ensures p.plain-d.ensures
 
 -- what is laid behind no data
@@ -65,7 +70,7 @@ module _ (j : Joined-maced) where
   space : reply_room ≤ length j.args.reply.now
   space = (no_bench j.args.self _ j.bench_refusal-bench.ensures j.if-bench-ne0.false).0
 
-  sealed : Sealed j.counted-next.result j.check-checked.result.maced 0 j.args.reply.now j.if-maced.reply j.if-maced.len
+  sealed : Sealed j.counted-next.result j.in-Ok.admitted.maced 0 j.args.reply.now j.if-maced.reply j.if-maced.len
   sealed =
       elim j.if-maced.branch [
         | then-maced w ↦ (w.reply-is ∙ w.seal-len.ensures.0, w.len-is ∙ w.seal-len.ensures.1)
@@ -84,13 +89,15 @@ returns-then-bench-ne0 c =
     let a = c.args in
     answered_as _ _ _ _ _ (command_bench a.self a.frame.now a.inputs _ c.bench_refusal-bench.ensures c.if-bench-ne0.true) (bench_answers a.self _ a.reply.now)
 
-pub returns-then-status : goal.returns-then-status
+pub refuse-requires : goal.refuse-requires
+refuse-requires c = (unbenched (goal.at.refuse-requires c).Else-bench-ne0).0
+
+pub returns-in-Err : goal.returns-in-Err
 unfolding view
-returns-then-status c =
+returns-in-Err c =
     let a = c.args in
-    let u = no_bench a.self (length a.reply.now) c.bench_refusal-bench.ensures c.if-bench-ne0.false in
-    let w = c.say-len.ensures in
-    command_refused a.self a.frame.now a.inputs a.reply.now u.0 u.1 _ (status_told _ _ _ c.check-checked.ensures) c.if-status.true c.ended-card.ensures w.0 w.1
+    let u = unbenched (goal.at.returns-in-Err c).Else-bench-ne0 in
+    command_refused a.self a.frame.now a.inputs a.reply.now u.0 u.1 _ c.in-Err.ensures.status (word_not_ok _) c.refuse.ensures
 
 pub begun-requires : goal.begun-requires
 begun-requires c = room (goal.at.begun-requires c).After-plain-d

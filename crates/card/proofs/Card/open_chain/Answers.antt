@@ -1,11 +1,12 @@
 use Rattle.card.proofs.Laws.{bench_answers, answered_as, no_bench, opening_bench, opening_refused, opening_taken}
 use Rattle.card.specs.View.{view, broken}
 use Rattle.card.specs.Events.{reply_room}
-use Rattle.checks.proofs.Order.{status_told, role_told}
+use Rattle.checks.specs.declared.Admitted.{Admitted}
+use Rattle.checks.proofs.Order.{word_not_ok}
 use lib.ListN.{length}
 use Prim.Native.Nat.{◌≤◌}
 use mathlib.Core.Bool.{false}
-use mathlib.Core.Path.{◌≡◌, sym, ◌∙◌}
+use mathlib.Core.Path.{◌≡◌, sym, ap}
 use Rattle.card.proofs.Card.open_chain.Goals as goal
 use Rattle.card.proofs.Card.open_chain.Goals.{Else-bench-ne0}
 
@@ -21,18 +22,16 @@ returns-then-bench-ne0 c =
 pub refuse-requires : goal.refuse-requires
 refuse-requires c = (unrefused (goal.at.refuse-requires c).Else-bench-ne0).0
 
-pub returns-then-status : goal.returns-then-status
+pub returns-in-Err : goal.returns-in-Err
 unfolding view
-returns-then-status c =
-    let p = (goal.at.returns-then-status c).Else-bench-ne0 in
+returns-in-Err c =
+    let p = (goal.at.returns-in-Err c).Else-bench-ne0 in
     let a = c.args in
-    opening_refused a.self a.frame.now a.reply.now (unrefused p).0 (unrefused p).1 _ (status_told _ _ _ c.check-checked.ensures) c.if-status.true c.refuse.ensures
+    opening_refused a.self a.frame.now a.reply.now (unrefused p).0 (unrefused p).1 _ c.in-Err.ensures.status (word_not_ok _) c.refuse.ensures
 
 pub returns : goal.returns
 unfolding view
 returns c =
     let p = (goal.at.returns c).Else-bench-ne0 in
     let a = c.args in
-    let checked = c.check-checked.ensures in
-    let taken = sym (status_told _ _ _ checked) ∙ c.if-status.false in
-    opening_taken a.self a.frame.now a.reply.now (unrefused p).0 (unrefused p).1 taken (role_told _ _ _ checked taken) c.data.ensures c.announced.ensures c.chained-next.ensures c.on_channel-card.ensures
+    opening_taken a.self a.frame.now a.reply.now (unrefused p).0 (unrefused p).1 (sym c.in-Ok.ensures.status) (ap (λ (a : Admitted). a.role) c.in-Ok.ensures.admitted) c.data.ensures c.announced.ensures c.chained-next.ensures c.on_channel-card.ensures
