@@ -47,7 +47,8 @@ impl Limits {
         has_room(from, amount, self.upper) && reaches(from, amount, self.lower)
     }
 
-    // The limit test of a fall, each limit as far below `from` as `from` lies above it.
+    // The limit test of a fall, turned round: from the lower limit there is room for it up to `from`, and from the upper it
+    // comes to `from`.
     pub fn hold_fall(self, from: i32, amount: u32) -> bool
         ensures { result ≡ within self (from -ℤ pos amount) }
     {
