@@ -1,8 +1,8 @@
 // The limits of the value file: what they hold, and what they hold after a rise or a fall.
-#![tactic(auto)]
+#![tactic(auto, unfolding(crate::specs::Limits::crossed, crate::specs::Limits::within))]
 
 ghost use Rattle.std.specs.Prelude.{◌≡◌, pos, ◌+ℤ◌, ◌-ℤ◌};
-ghost use Rattle.whole.specs.Parts.{above};
+ghost use Rattle.std.specs.Int.Signed.{le_z};
 ghost use Rattle.limits.specs.Limits.{crossed, within};
 
 #[derive(Clone, Copy)]
@@ -11,18 +11,18 @@ pub struct Limits {
     pub upper: i32,
 }
 
-// How far high lies above low, 0 where it does not: the headroom from low up to high.
-fn gap(low: i32, high: i32) -> u32
-    ensures { result ≡ above (high -ℤ low) }
+// Whether low and the amount come to high at most: the amount is at most the headroom from low up to high.
+fn has_room(low: i32, amount: u32, high: i32) -> bool
+    ensures { result ≡ le_z (low +ℤ pos amount) high }
 {
-    if high <= low {
-        return 0;
-    }
-    if (0 <= low) | (high < 0) {
-        return (high - low) as u32;
-    }
-    // Across 0 it can be past the signed range, and is counted up to 0 and on from there.
-    (!low as u32) + 1 + high as u32
+    low <= high && amount <= high.abs_diff(low)
+}
+
+// Whether low and the amount come to high at least: the amount is at least what low lacks to high.
+fn reaches(low: i32, amount: u32, high: i32) -> bool
+    ensures { result ≡ le_z high (low +ℤ pos amount) }
+{
+    high <= low || high.abs_diff(low) <= amount
 }
 
 impl Limits {
@@ -40,23 +40,18 @@ impl Limits {
         (self.lower <= v) & (v <= self.upper)
     }
 
-    // The limit test of a rise: the amount is at most the headroom up to the upper limit, and at least what `from` lacks to
-    // the lower.
+    // The limit test of a rise: there is room for it up to the upper limit, and it comes to the lower.
     pub fn hold_rise(self, from: i32, amount: u32) -> bool
         ensures { result ≡ within self (from +ℤ pos amount) }
     {
-        let headroom = gap(from, self.upper);
-        let lacking = gap(from, self.lower);
-        (from <= self.upper) & (amount <= headroom) & (lacking <= amount)
+        has_room(from, amount, self.upper) && reaches(from, amount, self.lower)
     }
 
-    // The limit test of a fall: the amount is at most the headroom down to the lower limit, and at least what `from` exceeds
-    // the upper by.
+    // The limit test of a fall, turned round: from the lower limit there is room for it up to `from`, and from the upper it
+    // comes to `from`.
     pub fn hold_fall(self, from: i32, amount: u32) -> bool
         ensures { result ≡ within self (from -ℤ pos amount) }
     {
-        let headroom = gap(self.lower, from);
-        let excess = gap(self.upper, from);
-        (self.lower <= from) & (amount <= headroom) & (excess <= amount)
+        has_room(self.lower, amount, from) && reaches(self.upper, amount, from)
     }
 }

@@ -2,7 +2,7 @@
 #![tactic(auto)]
 
 ghost use Rattle.std.specs.Prelude.{◌≡◌};
-ghost use Rattle.purse.specs.Purse.{held_sum, resting, settled, dropped};
+ghost use Rattle.purse.specs.Purse.{resting, settled, dropped};
 ghost use Rattle.purse.specs.Guarded.{raise_in, credit_in, debit_in, rebook_in};
 
 use limits::Limits;
@@ -21,23 +21,12 @@ pub struct Purse {
     pub moved: bool,
 }
 
-// The sum of Debits with one more, held at the largest figure.
-fn held_sum(sum: u32, amount: u32) -> u32
-    ensures { result ≡ held_sum sum amount }
-{
-    let total = sum as u64 + amount as u64;
-    if total <= Purse::LARGEST as u64 {
-        total as u32
-    } else {
-        Purse::LARGEST
-    }
-}
-
 impl Purse {
     // The largest figure of the allowance and of a sum of Debits.
     pub const LARGEST: u32 = 2147483647;
 
     // A purse with nothing pending.
+    #[tactic(auto, unfolding(crate::specs::Purse::resting))]
     pub fn resting(value: i32, allowance: u32) -> Purse
         ensures { result ≡ resting value allowance }
     {
@@ -53,36 +42,40 @@ impl Purse {
     }
 
     // What Credit and LimitedCredit share: the pending value rises, with `left` left of the allowance.
-    fn raise(mut self, limits: Limits, amount: u32, left: u32) -> Purse
+    fn raise(self, limits: Limits, amount: u32, left: u32) -> Purse
         ensures { result ≡ raise_in limits self amount left }
     {
         if !limits.hold_rise(self.pending, amount) {
             return self;
         }
-        self.pending = (self.pending as i64 + amount as i64) as i32;
-        self.left = left;
-        self.moved = true;
-        self
+        Purse {
+            pending: self.pending.saturating_add_unsigned(amount),
+            left,
+            moved: true,
+            ..self
+        }
     }
 
+    #[tactic(auto, unfolding(crate::specs::Guarded::credit_in, crate::specs::Guarded::raise_in, crate::specs::Purse::credited))]
     pub fn credit(self, limits: Limits, amount: u32) -> Purse
         ensures { result ≡ credit_in limits self amount }
     {
-        let left = self.left;
-        self.raise(limits, amount, left)
+        self.raise(limits, amount, self.left)
     }
 
-    pub fn debit(mut self, limits: Limits, amount: u32) -> Purse
+    pub fn debit(self, limits: Limits, amount: u32) -> Purse
         ensures { result ≡ debit_in limits self amount }
     {
         if !limits.hold_fall(self.pending, amount) {
             return self;
         }
-        self.pending = (self.pending as i64 - amount as i64) as i32;
-        self.debits = held_sum(self.debits, amount);
-        self.debited = true;
-        self.moved = true;
-        self
+        Purse {
+            pending: self.pending.saturating_sub_unsigned(amount),
+            debits: self.debits.saturating_add(amount).min(Purse::LARGEST),
+            debited: true,
+            moved: true,
+            ..self
+        }
     }
 
     // LimitedCredit: it uses up what is left of the allowance.
@@ -100,11 +93,13 @@ impl Purse {
         ensures { result ≡ settled self }
     {
         if self.debited {
-            return Purse::resting(self.pending, self.debits);
+            Purse::resting(self.pending, self.debits)
+        } else {
+            Purse::resting(self.pending, self.left)
         }
-        Purse::resting(self.pending, self.left)
     }
 
+    #[tactic(auto, unfolding(crate::specs::Purse::dropped, crate::specs::Purse::resting))]
     pub fn drop_pending(self) -> Purse
         ensures { result ≡ dropped self }
     {

@@ -1,20 +1,12 @@
-use borrow.Author.Rules.{rules}
-use mir.Syntax.{w32}
-use mir.Val.{SFits}
+use Rattle.std.proofs.Common.{rules}
 use Rattle.tables.specs.Choice.{picked, passed}
 use Rattle.purse.specs.Purse.{settled}
-use Rattle.purse.proofs.Moves.{rested}
 use Rattle.purse.proofs.Purse.commit.Goals as goal
-use Rattle.purse.proofs.Purse.commit.Goals.{Start}
-
--- `purse::Purse::commit` meets its contract, by whether a Debit is noted.
-pending_fits : (s : Start) → SFits w32 s.args.self.pending
-pending_fits s = search rules
 
 pub returns-then-self : goal.returns-then-self
 unfolding settled
-returns-then-self c = rested (pending_fits (goal.at.returns-then-self c).Start) c.resting.ensures (picked _ _ c.if-self.true)
+returns-then-self c = rw (picked c.args.self.debits c.args.self.left c.if-self.true) (search rules)
 
-pub returns : goal.returns
+pub returns-else-self : goal.returns-else-self
 unfolding settled
-returns c = rested (pending_fits (goal.at.returns c).Start) c.resting-2.ensures (passed _ _ c.if-self.false)
+returns-else-self c = rw (passed c.args.self.debits c.args.self.left c.if-self.false) (search rules)
