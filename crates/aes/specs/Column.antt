@@ -1,15 +1,16 @@
--- The bytes of a block from other places, what one column gives, and the products that a byte of InvMixColumns is made of.
-use Rattle.std.specs.Prelude.{ℕ, ◌*◌, ◌%◌, List, [], ◌∷◌, get_or}
+-- The bytes of a block from other places, and the products that a byte of InvMixColumns is made of.
+use Rattle.std.specs.Prelude.{ℕ, ◌+◌, ◌*◌, ◌%◌, List, [], ◌∷◌, get_or}
 use Rattle.field.specs.Field.{◌•◌}
 use Rattle.lookup.specs.Tables.{tabled}
+use Rattle.fips197.specs.Steps.{at, state}
 
 -- a function on each byte, with the byte at place i from place i times far, modulo 16
 abbrev pub taken : (ℕ → ℕ) → List ℕ → ℕ → List ℕ
 taken f s far = tabled 16 (λ i. f (get_or s (i * far % 16) 0))
 
--- a function of a column's bytes from each row down and round
-abbrev pub column : (ℕ → ℕ → ℕ → ℕ → ℕ) → ℕ → ℕ → ℕ → ℕ → List ℕ
-column f a b c d = f a b c d ∷ f b c d a ∷ f c d a b ∷ f d a b c ∷ []
+-- each byte is the one below it in its column, and the last of a column the first
+abbrev pub lifted : List ℕ → List ℕ
+lifted s = state (λ r c. at s (r + 1) c)
 
 -- a byte times x, x^2 and x^3
 abbrev pub multiples : ℕ → List ℕ

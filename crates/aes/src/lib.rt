@@ -20,11 +20,9 @@ pub fn cipher(w: [[u8; 16]; 11], b: [u8; 16]) -> [u8; 16]
 {
     let t = sbox::forward();
     let mut s = field::add_blocks(b, w[0]);
-    let mut i: usize = 0;
-    while i < 9 {
-        i += 1;
-        let u = round(&t, s, w[i]);
-        s = u;
+    for k in &w[1..10] {
+        let next = round(&t, s, *k);
+        s = next;
     }
     field::add_blocks(steps::sub_shift(&t, s), w[10])
 }
@@ -41,11 +39,9 @@ pub fn inv_cipher(w: [[u8; 16]; 11], b: [u8; 16]) -> [u8; 16]
 {
     let t = sbox::backward();
     let mut s = field::add_blocks(b, w[10]);
-    let mut i: usize = 9;
-    while 0 < i {
-        let u = inv_round(&t, s, w[i]);
-        s = u;
-        i -= 1;
+    for k in w[1..10].iter().rev() {
+        let next = inv_round(&t, s, *k);
+        s = next;
     }
     field::add_blocks(steps::inv_shift_sub(&t, s), w[0])
 }

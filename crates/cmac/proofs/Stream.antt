@@ -4,11 +4,12 @@ use mathlib.Core.Logic.{⊎_elim}
 use mathlib.Core.List.{List, [], ◌∷◌, ◌++◌}
 use Prim.Native.Nat.{ℕ, zero, suc, ◌+◌, ◌-◌, ◌/◌, ◌≤◌, ◌<◌}
 use native.Mathlib.Nat.{not-suc-le-zero, suc_inj, eq-or-lt_of_le}
+use native.Mathlib.Numerals.{add-one}
 use native.Mathlib.Omega.{arith}
 use borrow.Author.Tests.{lt-ltb, le-ltb, eq-eqb, ne_eqb}
 use lib.Bits.{xor_zero_r}
 use lib.ListN.{length, get_or, take, drop, set, replicate, length-append, length-drop, length-set, length-replicate, take-append-drop}
-use lib.Seq.{drop-cons, append_snoc, take-suc-set, drop-set-lt, length-take-le}
+use lib.Seq.{drop-cons, append_snoc, take-suc, take-suc-set, drop-set-lt, length-take-le}
 use Rattle.tables.specs.Choice.{picked, passed}
 use Rattle.field.specs.Field.{◌⊕◌}
 use Rattle.field.specs.Bytes.{sum, ◌⊞◌, zeros}
@@ -69,14 +70,19 @@ module _ (w : List (List ℕ)) where
   fed_append s [] v = refl
   fed_append s (a ∷ u) v = fed_append (step w s a) u v
 
+  -- one byte more
+  pub fed_next : (s : Held) (m : List ℕ) (i : ℕ) → i < length m → fed w s (take (i + 1) m) ≡ step w (fed w s (take i m)) (get_or m i 0)
+  fed_next s m i h = ap (fed w s) (ap (λ (n : ℕ). take n m) (add-one i) ∙ take-suc m i 0 h) ∙ fed_append s (take i m) (get_or m i 0 ∷ [])
+
   pub step_in : (c : List ℕ) (n a : ℕ) → n < 16 → step w (holding c n) a ≡ holding (put c n a) (n + 1)
   step_in c n a h = picked (holding (put c n a) (n + 1)) (holding (put (cipher w c) 0 a) 1) (lt-ltb n 16 h)
 
   -- a full block is encrypted first
-  pub step_full : (c : List ℕ) (n a : ℕ) → 16 ≤ n → step w (holding c n) a ≡ step w (holding (cipher w c) 0) a
-  step_full c n a h =
-      passed (holding (put c n a) (n + 1)) (holding (put (cipher w c) 0 a) 1) (le-ltb n 16 h)
-      ∙ sym (step_in (cipher w c) 0 a (omega arith))
+  pub step_over : (c : List ℕ) (n a : ℕ) → 16 ≤ n → step w (holding c n) a ≡ holding (put (cipher w c) 0 a) 1
+  step_over c n a h = passed (holding (put c n a) (n + 1)) (holding (put (cipher w c) 0 a) 1) (le-ltb n 16 h)
+
+  step_full : (c : List ℕ) (n a : ℕ) → 16 ≤ n → step w (holding c n) a ≡ step w (holding (cipher w c) 0) a
+  step_full c n a h = step_over c n a h ∙ sym (step_in (cipher w c) 0 a (omega arith))
 
   fed_full : (c m : List ℕ) → 0 < length m → fed w (holding c 16) m ≡ fed w (holding (cipher w c) 0) m
   fed_full c [] h = absurd (not-suc-le-zero h)

@@ -3,7 +3,7 @@
 
 ghost use Rattle.std.specs.Prelude.{◌≡◌, ◌++◌, ◌/◌};
 ghost use Rattle.field.specs.Field.{only_if};
-ghost use Rattle.cmac.specs.Cmac.{doubled, subkey1, subkey2, cmac, truncated};
+ghost use Rattle.cmac.specs.Cmac.{doubled, first_subkey, second_subkey, subkey1, subkey2, cmac, truncated};
 ghost use Rattle.cmac.specs.Fed.{fed, closed};
 
 // The chain's block with the bytes of the present part added to it, and the number of these.
@@ -23,15 +23,7 @@ fn carry(a: u8) -> u8
 fn double(l: [u8; 16]) -> [u8; 16]
     ensures { result ≡ doubled l }
 {
-    let mut r = l;
-    let mut i: usize = 0;
-    while i < 15 {
-        let next = i + 1;
-        r[i] = l[i] << 1 ^ l[next] >> 7;
-        i = next;
-    }
-    r[15] = l[15] << 1 ^ carry(l[0]);
-    r
+    std::array::from_fn(|i| l[i] << 1 ^ if i < 15 { l[i + 1] >> 7 } else { carry(l[0]) })
 }
 
 // The two subkeys, for whoever compares them with published figures.
@@ -45,7 +37,13 @@ impl Subkeys {
     pub fn of_key(key: [u8; 16]) -> Subkeys
         ensures { (result.first ≡ subkey1 key) × (result.second ≡ subkey2 key) }
     {
-        let first = double(aes::cipher(schedule::key_expansion(key), [0; 16]));
+        Subkeys::of_round_keys(schedule::key_expansion(key))
+    }
+
+    fn of_round_keys(w: [[u8; 16]; 11]) -> Subkeys
+        ensures { (result.first ≡ first_subkey w) × (result.second ≡ second_subkey w) }
+    {
+        let first = double(aes::cipher(w, [0; 16]));
         let second = double(first);
         Subkeys { first, second }
     }
@@ -57,16 +55,15 @@ fn feed(w: [[u8; 16]; 11], s: Held, m: &[u8]) -> Held
 {
     let mut block = s.block;
     let mut held = s.held;
-    let mut i = 0;
-    while i < m.len() {
+    for a in m {
         if held < 16 {
-            block[held] = block[held] ^ m[i];
+            block[held] ^= *a;
             held += 1;
-            i += 1;
         } else {
-            let next = aes::cipher(w, block);
+            let mut next = aes::cipher(w, block);
+            next[0] ^= *a;
             block = next;
-            held = 0;
+            held = 1;
         }
     }
     Held { block, held }
@@ -76,15 +73,14 @@ fn feed(w: [[u8; 16]; 11], s: Held, m: &[u8]) -> Held
 fn close(w: [[u8; 16]; 11], s: Held) -> [u8; 16]
     ensures { result ≡ closed w s }
 {
-    let first = double(aes::cipher(w, [0; 16]));
-    let second = double(first);
+    let subkeys = Subkeys::of_round_keys(w);
     let mut block = s.block;
     let held = s.held;
     if held < 16 {
-        block[held] = block[held] ^ 0x80;
-        return aes::cipher(w, field::add_blocks(block, second));
+        block[held] ^= 0x80;
+        return aes::cipher(w, field::add_blocks(block, subkeys.second));
     }
-    aes::cipher(w, field::add_blocks(block, first))
+    aes::cipher(w, field::add_blocks(block, subkeys.first))
 }
 
 // The MAC of a message in two pieces.
@@ -104,5 +100,5 @@ pub fn short_tag(key: [u8; 16], head: &[u8], rest: &[u8]) -> [u8; 8]
     ensures { result ≡ truncated (cmac key (head.now ++ rest.now)) }
 {
     let t = tag(key, head, rest);
-    [t[1], t[3], t[5], t[7], t[9], t[11], t[13], t[15]]
+    std::array::from_fn(|i| t[2 * i + 1])
 }

@@ -6,7 +6,7 @@ use Rattle.std.proofs.Math.Nat.{suc_inj}
 use Rattle.std.specs.Array.{IsFromFnResult, IsFromFnResultFrom}
 use Rattle.lookup.specs.Tables.{tabled}
 
-by_places : {B : Type 0} (n : ℕ) (ys : List B) (at : ℕ → B) → length ys ≡ n → ((i : ℕ) (d : B) → i < n → get_or ys i d ≡ at i) → ys ≡ tabled n at
+pub by_places : {B : Type 0} (n : ℕ) (ys : List B) (at : ℕ → B) → length ys ≡ n → ((i : ℕ) (d : B) → i < n → get_or ys i d ≡ at i) → ys ≡ tabled n at
 by_places zero [] at e h = refl
 by_places zero (y ∷ ys) at e h = absurd (omega arith)
 by_places (suc n) [] at e h = absurd (omega arith)

@@ -1,10 +1,7 @@
-use mathlib.Core.Path.{◌≡◌}
-use Prim.Native.Nat.{◌≤◌}
-use Rattle.fips197.specs.Cipher.{inv_rounds}
+use Rattle.std.proofs.Common.{◌≡◌}
+use Rattle.std.specs.List.{fold}
+use Rattle.fips197.specs.Cipher.{inv_round}
 use Rattle.aes.proofs.inv_cipher.Given as goal
 
-abbrev pub invariant-loop-i : goal.invariant-loop-i
-invariant-loop-i l = (l.i ≤ 9) × (inv_rounds l.w l.i l.s ≡ inv_rounds l.w 9 l.initial.s)
-
-abbrev pub decreases-loop-i : goal.decreases-loop-i
-decreases-loop-i l = l.i
+abbrev pub invariant-loop-k : goal.invariant-loop-k
+invariant-loop-k l = l.s ≡ fold (λ s k. inv_round s k.now) l.initial.s l.yielded

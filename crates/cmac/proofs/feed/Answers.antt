@@ -1,47 +1,24 @@
-use mathlib.Core.Path.{◌≡◌, refl, ap, ap₂, ◌∙◌, sym}
+use mathlib.Core.Path.{ap, ap₂, ◌∙◌, sym}
 use mathlib.Core.List.{List}
-use Prim.Native.Nat.{ℕ, suc, ◌+◌, ◌<◌, ◌≤◌}
-use native.Mathlib.Numerals.{add-one}
-use lib.ListN.{length, get_or, drop, drop_of_length-le}
-use lib.Seq.{drop-cons}
-use Rattle.fips197.specs.Cipher.{cipher}
+use Prim.Native.Nat.{ℕ}
+use lib.ListN.{get_or}
 use Rattle.cmac.specs.declared.Held.{Held}
-use Rattle.cmac.specs.Fed.{put, holding, fed}
-use Rattle.cmac.proofs.Stream.{step_in, step_full}
+use Rattle.cmac.specs.Fed.{put, holding, step}
+use Rattle.cmac.proofs.Stream.{fed_next, step_in, step_over}
 use Rattle.cmac.proofs.feed.Goals as goal
+use Rattle.cmac.proofs.feed.Goals.{then-held-lt16, else-held-lt16}
 
-module _ (w : List (List ℕ)) (b : List ℕ) (n i : ℕ) (m : List ℕ) where
-  -- a byte that finds room
-  taken : n < 16 → i < length m → fed w (holding b n) (drop i m) ≡ fed w (holding (put b n (get_or m i 0)) (n + 1)) (drop (i + 1) m)
-  taken h l =
-      ap (fed w (holding b n)) (drop-cons m i 0 l)
-      ∙ ap₂ (fed w) (step_in w b n (get_or m i 0) h) (ap (λ (j : ℕ). drop j m) (sym (add-one i)))
-
-  -- a block that is full
-  full : 16 ≤ n → i < length m → fed w (holding b n) (drop i m) ≡ fed w (holding (cipher w b) 0) (drop i m)
-  full h l =
-      ap (fed w (holding b n)) (drop-cons m i 0 l)
-      ∙ ap (λ (s : Held). fed w s (drop (suc i) m)) (step_full w b n (get_or m i 0) h)
-      ∙ ap (fed w (holding (cipher w b) 0)) (sym (drop-cons m i 0 l))
-
-pub loop-i-init : goal.loop-i-init
-loop-i-init c = refl
-
-pub loop-i-preserved-then-held-lt16 : goal.loop-i-preserved-then-held-lt16
-loop-i-preserved-then-held-lt16 c =
-    let l = c.loop-i in
-    let a = c.args in
-    sym (taken a.w l.block l.held l.i a.m.now c.if-held-lt16.true c.loop-i-test.true) ∙ l.invariant
-
-pub loop-i-preserved : goal.loop-i-preserved
-loop-i-preserved c =
-    let l = c.loop-i in
-    let a = c.args in
-    ap (λ (b : List ℕ). fed a.w (holding b 0) (drop l.i a.m.now)) c.cipher-next.ensures
-    ∙ sym (full a.w l.block l.held l.i a.m.now c.if-held-lt16.false c.loop-i-test.true) ∙ l.invariant
-
-pub returns : goal.returns
-returns c =
-    let l = c.loop-i in
-    let a = c.args in
-    sym (ap (fed a.w (holding l.block l.held)) (drop_of_length-le a.m.now c.loop-i-test.false)) ∙ l.invariant
+pub loop-a-preserved : goal.loop-a-preserved
+loop-a-preserved c =
+    let l = c.loop-a in
+    let w = c.args.w in
+    let m = c.args.m.now in
+    let x = get_or m l.a-index 0 in
+    let before = holding c.args.s.block c.args.s.held in
+    let more = ap (λ (s : Held). step w s x) l.invariant ∙ sym (fed_next w before m l.a-index c.loop-a-test.true) in
+    elim c.if-held-lt16.branch [
+      | then-held-lt16 u ↦ ap₂ holding u.block-is u.held-is ∙ sym (step_in w l.block l.held x u.if-held-lt16.true) ∙ more
+      | else-held-lt16 u ↦
+          ap₂ holding (u.block-is ∙ ap (λ (b : List ℕ). put b 0 x) u.cipher-next.ensures) u.held-is
+          ∙ sym (step_over w l.block l.held x u.if-held-lt16.false) ∙ more
+    ]
