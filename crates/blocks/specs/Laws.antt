@@ -59,3 +59,8 @@ module _ (d : List ℕ) (from : ℕ) where
   pub moved : (n : ℕ) → n ≤ length d - from → paste d 0 s n ≡ laid d 0 (take n s)
   unfolding laid
   moved n h = let l = length-drop from d in rw (length-take-le n s (omega arith)) refl
+
+-- where anything is kept, it begins behind what was read
+pub same_cut : (d : List ℕ) (from read n : ℕ) → (0 < n → from ≡ read) → take n (drop from d) ≡ take n (drop read d)
+same_cut d from read zero h = refl
+same_cut d from read (suc n) h = ap (λ k. take (suc n) (drop k d)) (h (omega arith))

@@ -31,10 +31,7 @@ fn add_number(n: u32, at: usize, answer: &mut [u8]) -> usize
     ensures adds { Adds (decimal n) answer.old at answer.new result }
     ensures upper_bound { result ≤ at + 10 }
 {
-    let mut digits = [0u8; 10];
-    let size = decimal::put_decimal(n, &mut digits);
-    wire::lay(answer, at, &digits[0..size]);
-    at + size
+    at + decimal::put_decimal(n, &mut answer[at..])
 }
 
 // Lays a number and a character behind it.
@@ -52,10 +49,8 @@ fn add_signed(z: i32, at: usize, answer: &mut [u8]) -> usize
     ensures adds { Adds (field (signed_decimal z)) answer.old at answer.new result }
     ensures upper_bound { result ≤ at + 12 }
 {
-    let mut digits = [0u8; 11];
-    let size = decimal::put_signed(z, &mut digits);
-    wire::lay(answer, at, &digits[0..size]);
-    add_char(b' ', at + size, answer)
+    let end = at + decimal::put_signed(z, &mut answer[at..]);
+    add_char(b' ', end, answer)
 }
 
 // Lays a letter behind what is there, where the flag says so.

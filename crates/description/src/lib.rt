@@ -33,26 +33,14 @@ fn lay_head(kind: u8, option: u8, rights: u16, reply: &mut [u8])
 fn switches(settings: Settings) -> u8
     ensures { result ≡ switches_of settings }
 {
-    if settings.limited {
-        if settings.free {
-            return 3;
-        }
-        return 1;
-    }
-    if settings.free {
-        return 2;
-    }
-    0
+    u8::from(settings.limited) + 2 * u8::from(settings.free)
 }
 
 // 01h for a file in MAC mode, else 00h.
 fn option_of(file: FileSettings) -> u8
     ensures { result ≡ option_of file }
 {
-    if file.maced {
-        return 0x01;
-    }
-    0x00
+    u8::from(file.maced)
 }
 
 // Lays the settings of the value file over the front of reply.

@@ -1,58 +1,32 @@
 // The frame: where its parts lie, and places 1 to 4 of the order of checks.
 #![tactic(auto)]
 
-ghost use Rattle.std.specs.Prelude.{◌≡◌, ◌-◌, min, max};
+ghost use Rattle.std.specs.Prelude.{◌≡◌};
 ghost use Rattle.frames.specs.Frame.{le_of, data_of, bytes_in};
 ghost use Rattle.frames.specs.Faults.{faults_of};
 
-// The data field of a frame of n bytes begins at byte 5; a shorter frame has none.
-fn data_start(n: usize) -> usize
-    ensures { result ≡ min 5 n }
-{
-    if n < 5 {
-        return n;
-    }
-    5
-}
-
-// It ends before Le.
-fn data_end(n: usize) -> usize
-    ensures { result ≡ max (min 5 n) (n - 1) }
-{
-    if n < 6 {
-        return data_start(n);
-    }
-    n - 1
-}
-
-// The data field of a frame. One part between computed ends: two returns of a part cost a command a tenth of its time.
+// The data field of a frame: from byte 5 up to Le. One part between computed ends: two returns of a part cost a command a tenth of its time.
 pub fn data(frame: &[u8]) -> &[u8]
     ensures { result.now ≡ data_of frame.now }
 {
-    let a = data_start(frame.len());
-    let e = data_end(frame.len());
-    &frame[a..e]
+    let n = frame.len();
+    let start = n.min(5);
+    let end = start.max(n.saturating_sub(1));
+    &frame[start..end]
 }
 
 // A write's bytes in a data field: behind file, offset and length.
 pub fn bytes_in(d: &[u8]) -> &[u8]
     ensures { result.now ≡ bytes_in d.now }
 {
-    if d.len() < 7 {
-        return &d[0..0];
-    }
-    &d[7..]
+    d.get(7..).unwrap_or(&[])
 }
 
 // The last byte, or 0 where there is none.
 fn last(frame: &[u8]) -> u8
     ensures { result ≡ le_of frame.now }
 {
-    let n = frame.len();
-    if n == 0 {
-        return wire::byte_at(frame, 0);
-    }
-    wire::byte_at(frame, n - 1)
+    frame.last().copied().unwrap_or(0)
 }
 
 // Which of places 1 to 4 apply, in their order.

@@ -29,36 +29,21 @@ impl Kind {
     const LONGEST: usize = 218;
 
     // By the letter, the number of characters behind it, and whether they are digits.
+    #[tactic(auto, unfolding(crate::specs::Kinds::kind_of, tables::specs::Choice::pick))]
     pub fn of_line(letter: u8, n: usize, digits: bool) -> Kind
         ensures { result ≡ kind_of letter n digits }
     {
-        if (letter == b'P') & ((n == 46) | (n == 208) | (n == Kind::LONGEST)) & digits {
-            return Kind::Order;
+        match (letter, n, digits) {
+            (b'P', 46 | 208 | Kind::LONGEST, true) => Kind::Order,
+            (b'S', 0, _) => Kind::NoSession,
+            (b'S', 2, true) => Kind::Session,
+            (b'R', 4, true) => Kind::Room,
+            (b'N', 40, true) => Kind::HandedIn,
+            (b'C', 2.., true) => Kind::Opening,
+            (b'D', _, true) => Kind::FileBytes,
+            (b'B', 0, _) => Kind::Books,
+            (b'L', 0, _) => Kind::Count,
+            _ => Kind::Unread,
         }
-        if (letter == b'S') & (n == 0) {
-            return Kind::NoSession;
-        }
-        if (letter == b'S') & (n == 2) & digits {
-            return Kind::Session;
-        }
-        if (letter == b'R') & (n == 4) & digits {
-            return Kind::Room;
-        }
-        if (letter == b'N') & (n == 40) & digits {
-            return Kind::HandedIn;
-        }
-        if (letter == b'C') & (2 <= n) & digits {
-            return Kind::Opening;
-        }
-        if (letter == b'D') & digits {
-            return Kind::FileBytes;
-        }
-        if (letter == b'B') & (n == 0) {
-            return Kind::Books;
-        }
-        if (letter == b'L') & (n == 0) {
-            return Kind::Count;
-        }
-        Kind::Unread
     }
 }

@@ -43,10 +43,8 @@ fn sixteen_at(b: &[u8], at: u8) -> [u8; 16]
 {
     let from = at as usize;
     let mut key = [0u8; 16];
-    let mut i = 0;
-    while i < 16 {
+    for i in 0..16 {
         key[i] = wire::byte_at(b, from + i);
-        i += 1;
     }
     key
 }
@@ -70,9 +68,7 @@ fn rights_in(b: &[u8], i: u8) -> u16
     ensures { result ≡ le2 b.now (2 * i) }
 {
     let at = 2 * (i as usize);
-    let low = wire::byte_at(b, at);
-    let high = wire::byte_at(b, at + 1);
-    low as u16 + 256 * (high as u16)
+    u16::from_le_bytes([wire::byte_at(b, at), wire::byte_at(b, at + 1)])
 }
 
 // The number of file i.

@@ -14,11 +14,9 @@ fn lay_entries(slots: &[u8], place: u8, first: usize, number: usize, reply: &mut
     ensures { (reply.new ≡ laid reply.old 0 (oldest_first slots.now place first number)) × (result ≡ length (oldest_first slots.now place first number)) }
 {
     let end = first + number;
-    let mut k = 0;
-    while k < number {
+    for k in 0..number {
         let i = Log::ENTRY * ((place as usize + Log::BACK * (end - (k + 1))) % Log::ROUND);
         wire::lay(reply, Log::ENTRY * k, &slots[i..i + Log::ENTRY]);
-        k += 1;
     }
     Log::ENTRY * number
 }

@@ -1,9 +1,16 @@
-use mathlib.Core.List.{[], ◌∷◌}
-use Rattle.decimal.specs.Decimal.{ten_digits}
+use Rattle.decimal.proofs.Steps.{all_digits}
+use Prim.Native.Nat.{◌/◌}
+use native.Mathlib.Numerals.{add-one}
+use native.Mathlib.Omega.{arith}
+use mathlib.Core.Path.{◌≡◌, refl, ap, ◌∙◌}
 use Rattle.decimal.proofs.ten_of.Goals as goal
 
+pub loop-i-preserved : goal.loop-i-preserved
+loop-i-preserved c =
+    let l = c.loop-i in
+    rw add-one (ap (λ r. r / 10) l.invariant.0, rw (l.invariant.1, c.digit.ensures, l.invariant.0) refl)
+
 pub returns : goal.returns
-unfolding ten_digits
 returns c =
-    λ i.
-    c.digit.ensures i ∷ c.digit-2.ensures i ∷ c.digit-3.ensures i ∷ c.digit-4.ensures i ∷ c.digit-5.ensures i ∷ c.digit-6.ensures i ∷ c.digit-7.ensures i ∷ c.digit-8.ensures i ∷ c.digit-9.ensures i ∷ c.digit-10.ensures i ∷ []
+    let e : c.loop-i.i ≡ 10 = omega arith in
+    c.loop-i.invariant.1 ∙ rw e (all_digits c.args.n)

@@ -1,12 +1,15 @@
 use Rattle.description.specs.Description.{option_of}
-use Rattle.tables.specs.Choice.{hit, skip}
-use mathlib.Core.Path.{refl}
+use Rattle.tables.specs.Choice.{pick}
+use mathlib.Core.Bool.{Bool, true, false}
+use mathlib.Core.Path.{◌≡◌, refl, ◌∙◌}
+use mir.Val.{bool_byte}
 use Rattle.description.proofs.option_of.Goals as goal
 
-pub returns-then-file : goal.returns-then-file
-unfolding option_of
-returns-then-file c = hit _ _ _ c.if-file.true refl
+one : (m : Bool) → bool_byte m ≡ pick m 1 0
+unfolding pick
+one true = refl
+one false = refl
 
 pub returns : goal.returns
 unfolding option_of
-returns c = skip _ _ _ c.if-file.false refl
+returns c = c.from.ensures ∙ one _

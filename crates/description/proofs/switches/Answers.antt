@@ -1,20 +1,18 @@
 use Rattle.description.specs.Description.{switches_of}
 use Rattle.tables.specs.Choice.{pick}
-use mathlib.Core.Path.{refl}
+use mathlib.Core.Bool.{Bool, true, false}
+use mathlib.Core.Path.{◌≡◌, refl}
+use mir.Val.{bool_byte}
+use Prim.Native.Nat.{◌+◌, ◌*◌}
 use Rattle.description.proofs.switches.Goals as goal
 
-pub returns-then-settings-2 : goal.returns-then-settings-2
-unfolding switches_of pick
-returns-then-settings-2 c = rw (c.if-settings.true, c.if-settings-2.true) refl
-
-pub returns-then-settings : goal.returns-then-settings
-unfolding switches_of pick
-returns-then-settings c = rw (c.if-settings.true, c.if-settings-2.false) refl
-
-pub returns-then-settings-3 : goal.returns-then-settings-3
-unfolding switches_of pick
-returns-then-settings-3 c = rw (c.if-settings.false, c.if-settings-3.true) refl
+both : (l f : Bool) → bool_byte l + 2 * bool_byte f ≡ pick l 1 0 + pick f 2 0
+unfolding pick
+both true true = refl
+both true false = refl
+both false true = refl
+both false false = refl
 
 pub returns : goal.returns
-unfolding switches_of pick
-returns c = rw (c.if-settings.false, c.if-settings-3.false) refl
+unfolding switches_of
+returns c = rw (c.from.ensures, c.from-2.ensures) (both _ _)

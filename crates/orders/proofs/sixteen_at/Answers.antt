@@ -10,7 +10,7 @@ use mathlib.Core.Path.{◌≡◌, refl, ap₂, sym, ◌∙◌}
 use Rattle.orders.proofs.sixteen_at.Goals as goal
 
 pub loop-i-init : goal.loop-i-init
-loop-i-init c = (omega arith, refl, refl)
+loop-i-init c = (refl, refl)
 
 pub loop-i-preserved : goal.loop-i-preserved
 loop-i-preserved c =
@@ -18,11 +18,10 @@ loop-i-preserved c =
     let i = c.loop-i.i in
     let n = length_sixteen a.b.now a.at in
     let e = sixteen_byte a.b.now a.at i (omega arith) in (
-      omega arith,
-      simp length-set c.loop-i.invariant.1,
+      simp length-set c.loop-i.invariant.0,
       rw add-one
           (take-suc-set c.loop-i.key i c.byte_at.result (omega arith)
-          ∙ ap₂ (λ (t : List ℕ) (x : ℕ). t ++ x ∷ []) c.loop-i.invariant.2 (c.byte_at.ensures ∙ sym e)
+          ∙ ap₂ (λ (t : List ℕ) (x : ℕ). t ++ x ∷ []) c.loop-i.invariant.1 (c.byte_at.ensures ∙ sym e)
           ∙ sym (take-suc (sixteen a.b.now a.at) i 0 (omega arith))),
     )
 
@@ -31,4 +30,4 @@ returns c =
     let a = c.args in
     let n = length_sixteen a.b.now a.at in
     let e : c.loop-i.i ≡ 16 = omega arith in
-    sym (take_all 16 c.loop-i.key (omega arith)) ∙ (rw e at c.loop-i.invariant.2) ∙ take_all 16 _ (omega arith)
+    sym (take_all 16 c.loop-i.key (omega arith)) ∙ (rw e at c.loop-i.invariant.1) ∙ take_all 16 _ (omega arith)

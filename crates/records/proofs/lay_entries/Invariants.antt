@@ -1,12 +1,9 @@
 use mathlib.Core.Path.{◌≡◌}
-use Prim.Native.Nat.{◌≤◌, ◌-◌}
+use Prim.Native.Nat.{◌-◌}
 use lib.ListN.{length}
 use Rattle.wire.specs.Bytes.{laid}
 use Rattle.records.specs.Shown.{oldest_first}
 use Rattle.records.proofs.lay_entries.Given as goal
 
 abbrev pub invariant-loop-k : goal.invariant-loop-k
-invariant-loop-k l = (l.k ≤ l.number) × (length l.reply ≡ length l.initial.reply) × (l.reply ≡ laid l.initial.reply 0 (oldest_first l.slots l.place (l.end - l.k) l.k))
-
-abbrev pub decreases-loop-k : goal.decreases-loop-k
-decreases-loop-k l = l.number - l.k
+invariant-loop-k l = (length l.reply ≡ length l.initial.reply) × (l.reply ≡ laid l.initial.reply 0 (oldest_first l.slots l.place (l.end - l.k) l.k))
