@@ -47,50 +47,22 @@ fn sent(opening: bool, d: &[u8]) -> u32
 }
 
 // A row each, and the row of the command alone is asked.
+#[tactic(auto, unfolding(rows::specs::Rows::length_cases))]
 pub fn wrong_length(opening: bool, ins: u8, d: &[u8]) -> bool
     ensures { result ≡ wrong_length opening ins d.now }
 {
     let n = d.len();
-    if ins == table::READ_DATA {
-        return n != 7;
+    match ins {
+        table::READ_DATA | table::READ_RECORDS => n != 7,
+        table::WRITE_DATA | table::WRITE_RECORD => n != sent(opening, d) as usize + 7,
+        table::GET_VALUE | table::CLEAR_RECORD_FILE | table::GET_FILE_SETTINGS => n != 1,
+        table::CREDIT | table::DEBIT | table::LIMITED_CREDIT => n != 5,
+        table::COMMIT_TRANSACTION => 1 < n,
+        table::ABORT_TRANSACTION => 0 < n,
+        table::AUTHENTICATE_FIRST => (n < 2) | (n != wire::byte_at(d, 1) as usize + 2),
+        table::AUTHENTICATE_SECOND => n != 32,
+        _ => false,
     }
-    if ins == table::WRITE_DATA {
-        return n != sent(opening, d) as usize + 7;
-    }
-    if ins == table::GET_VALUE {
-        return n != 1;
-    }
-    if ins == table::CREDIT {
-        return n != 5;
-    }
-    if ins == table::DEBIT {
-        return n != 5;
-    }
-    if ins == table::LIMITED_CREDIT {
-        return n != 5;
-    }
-    if ins == table::READ_RECORDS {
-        return n != 7;
-    }
-    if ins == table::WRITE_RECORD {
-        return n != sent(opening, d) as usize + 7;
-    }
-    if ins == table::CLEAR_RECORD_FILE {
-        return n != 1;
-    }
-    if ins == table::COMMIT_TRANSACTION {
-        return 1 < n;
-    }
-    if ins == table::ABORT_TRANSACTION {
-        return 0 < n;
-    }
-    if ins == table::GET_FILE_SETTINGS {
-        return n != 1;
-    }
-    if ins == table::AUTHENTICATE_FIRST {
-        return (n < 2) | (n != wire::byte_at(d, 1) as usize + 2);
-    }
-    (ins == table::AUTHENTICATE_SECOND) & (n != 32)
 }
 
 // Whether a command that is in MAC mode, if sealed says so, carries a MAC.
