@@ -22,6 +22,7 @@ pub struct Row {
 }
 
 impl Row {
+    #[tactic(auto, unfolding(crate::specs::Row::row_of))]
     pub fn of_command(ins: u8) -> Row
         ensures { result ≡ row_of ins }
     {
@@ -59,6 +60,7 @@ fn on_log(ins: u8) -> bool
     )
 }
 
+#[tactic(auto, unfolding(crate::specs::Table::on_file))]
 fn on_file(ins: u8) -> bool
     ensures { result ≡ on_file ins }
 {
@@ -66,6 +68,7 @@ fn on_file(ins: u8) -> bool
 }
 
 // The commands on a file, and GetFileSettings.
+#[tactic(auto, unfolding(crate::specs::Table::names_file))]
 fn names_file(ins: u8) -> bool
     ensures { result ≡ names_file ins }
 {
@@ -103,6 +106,7 @@ fn by_write(ins: u8) -> bool
 }
 
 // Whether a file of this role is of the kind on which the command acts.
+#[tactic(auto, unfolding(crate::specs::Table::suits))]
 pub fn suits_file(ins: u8, role: Role) -> bool
     ensures { result ≡ suits ins role }
 {
