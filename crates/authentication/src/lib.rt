@@ -10,6 +10,7 @@ use channel::{Channel, Inputs, Stage};
 use keys::Keys;
 
 // The channel behind an accepted first part.
+#[tactic(auto, unfolding(crate::specs::Authentication::begun))]
 pub fn begin(inputs: Inputs, d: &[u8]) -> Channel
     ensures { result ≡ begun inputs d.now }
 {
@@ -27,6 +28,7 @@ pub fn begin(inputs: Inputs, d: &[u8]) -> Channel
 }
 
 // The data of its reply.
+#[tactic(auto, unfolding(crate::specs::Authentication::first_shown))]
 pub fn show_first(keys: Keys, inputs: Inputs, d: &[u8]) -> [u8; 16]
     ensures { result ≡ first_shown keys inputs d.now }
 {
@@ -35,6 +37,7 @@ pub fn show_first(keys: Keys, inputs: Inputs, d: &[u8]) -> [u8; 16]
 }
 
 // The channel behind a second part.
+#[tactic(auto, unfolding(crate::specs::Guarded::opened_in))]
 pub fn open(keys: Keys, channel: Channel, d: &[u8]) -> Channel
     ensures { result ≡ opened_in keys channel d.now }
 {
@@ -53,6 +56,7 @@ pub fn open(keys: Keys, channel: Channel, d: &[u8]) -> Channel
 }
 
 // The data of its reply.
+#[tactic(auto, unfolding(crate::specs::Guarded::second_in))]
 pub fn show_second(keys: Keys, channel: Channel, d: &[u8]) -> [u8; 32]
     ensures { result ≡ second_in keys channel d.now }
 {
