@@ -11,6 +11,7 @@ use columns::{Row, table};
 use keys::Keys;
 use roles::Role;
 
+#[tactic(auto, unfolding(columns::specs::Row::row_of))]
 fn is_base(ins: u8) -> bool
     ensures { result ≡ is_base ins }
 {
@@ -18,6 +19,7 @@ fn is_base(ins: u8) -> bool
     row.names | row.ends
 }
 
+#[tactic(auto, unfolding(rows::specs::Rows::unknown_command))]
 pub fn unknown_command(opening: bool, stage: Stage, ins: u8) -> bool
     ensures { result ≡ unknown_command opening stage ins }
 {
@@ -29,6 +31,7 @@ pub fn unknown_command(opening: bool, stage: Stage, ins: u8) -> bool
     !(base | (ins == table::AUTHENTICATE_FIRST) | ((ins == table::AUTHENTICATE_SECOND) & waits))
 }
 
+#[tactic(auto, unfolding(rows::specs::Rows::interrupts))]
 pub fn interrupts(stage: Stage, chain: Chain, ins: u8) -> bool
     ensures { result ≡ interrupts stage chain ins }
 {
@@ -37,6 +40,7 @@ pub fn interrupts(stage: Stage, chain: Chain, ins: u8) -> bool
 }
 
 // How many bytes stand behind a write's length field.
+#[tactic(auto, unfolding(rows::specs::Rows::sent_of))]
 fn sent(opening: bool, d: &[u8]) -> u32
     ensures { result ≡ sent_of opening d.now }
 {
@@ -75,12 +79,14 @@ pub fn carries(opening: bool, sealed: bool) -> bool
     sealed
 }
 
+#[tactic(auto, unfolding(rows::specs::Rows::lacks_mac))]
 pub fn lacks_mac(maced: bool, x: &[u8]) -> bool
     ensures { result ≡ lacks_mac maced x.now }
 {
     maced & (x.len() < modes::MAC_SIZE)
 }
 
+#[tactic(auto, unfolding(rows::specs::Rows::unknown_file, columns::specs::Row::row_of))]
 pub fn unknown_file(ins: u8, role: Role) -> bool
     ensures { result ≡ unknown_file ins role }
 {
@@ -102,6 +108,7 @@ fn is_not_granted(access: Access) -> bool
     access == Access::NotGranted
 }
 
+#[tactic(auto, unfolding(rows::specs::Rows::other_kind_or_never, columns::specs::Row::row_of))]
 pub fn other_kind_or_never(ins: u8, role: Role, access: Access) -> bool
     ensures { result ≡ other_kind_or_never ins role access }
 {
@@ -111,6 +118,7 @@ pub fn other_kind_or_never(ins: u8, role: Role, access: Access) -> bool
     row.file & (!suited | never)
 }
 
+#[tactic(auto, unfolding(rows::specs::Rows::not_granted, columns::specs::Row::row_of))]
 pub fn not_granted(ins: u8, access: Access) -> bool
     ensures { result ≡ not_granted ins access }
 {
@@ -120,6 +128,7 @@ pub fn not_granted(ins: u8, access: Access) -> bool
 }
 
 // Nothing of the cryptography runs but for a second part of its right length.
+#[tactic(auto, unfolding(rows::specs::Rows::part_fails))]
 pub fn part_fails(keys: Keys, channel: Channel, ins: u8, d: &[u8]) -> bool
     ensures { result ≡ part_fails keys channel ins d.now }
 {
@@ -133,6 +142,7 @@ pub fn part_fails(keys: Keys, channel: Channel, ins: u8, d: &[u8]) -> bool
 }
 
 // Nor but for a command that carries a MAC.
+#[tactic(auto, unfolding(rows::specs::Rows::forged))]
 pub fn is_forged(channel: Channel, maced: bool, ins: u8, x: &[u8]) -> bool
     ensures { result ≡ forged channel maced ins x.now }
 {
@@ -146,6 +156,7 @@ pub fn is_forged(channel: Channel, maced: bool, ins: u8, x: &[u8]) -> bool
     !wire::is_same(modes::mac(x), &right)
 }
 
+#[tactic(auto, unfolding(rows::specs::Rows::used_up))]
 pub fn used_up(stage: Stage, ins: u8) -> bool
     ensures { result ≡ used_up stage ins }
 {

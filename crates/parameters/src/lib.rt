@@ -11,6 +11,7 @@ use logfile::Log;
 use purse::Purse;
 use roles::Role;
 
+#[tactic(auto, unfolding(rows::specs::Rows::switched_off))]
 pub fn switched_off(ins: u8, limited: bool, clears: bool) -> bool
     ensures { result ≡ switched_off ins limited clears }
 {
@@ -86,6 +87,7 @@ fn amount_is_outside(limits: Limits, purse: Purse, ins: u8, amount: u32) -> bool
     }
 }
 
+#[tactic(auto, unfolding(rows::specs::Rows::outside, tables::specs::Choice::pick))]
 pub fn is_outside(limits: Limits, purse: Purse, entries: u8, ins: u8, role: Role, d: &[u8]) -> bool
     ensures { result ≡ outside limits purse entries ins role d.now }
 {
@@ -99,6 +101,7 @@ pub fn is_outside(limits: Limits, purse: Purse, entries: u8, ins: u8, role: Role
 // The most bytes that a ReadData in MAC mode shows.
 const MACED_READ: usize = 248;
 
+#[tactic(auto, unfolding(rows::specs::Rows::long_read))]
 pub fn is_long_read(maced: bool, ins: u8, role: Role, d: &[u8]) -> bool
     ensures { result ≡ long_read maced ins role d.now }
 {
@@ -113,6 +116,7 @@ pub fn is_long_read(maced: bool, ins: u8, role: Role, d: &[u8]) -> bool
     from as usize + MACED_READ < end
 }
 
+#[tactic(auto, unfolding(rows::specs::Rows::nothing_pending, columns::specs::Row::row_of))]
 pub fn nothing_pending(ins: u8, value: bool, log: bool) -> bool
     ensures { result ≡ nothing_pending ins value log }
 {
