@@ -135,10 +135,7 @@ pub fn part_fails(keys: Keys, channel: Channel, ins: u8, d: &[u8]) -> bool
     if ins != table::AUTHENTICATE_SECOND {
         return false;
     }
-    let stage = channel.stage;
-    let key = keys.at(stage.key());
-    let secret = channel.secret;
-    handshake::is_failed(key, secret, d)
+    handshake::is_failed(keys.at(channel.stage.key()), channel.secret, d)
 }
 
 // Nor but for a command that carries a MAC.
@@ -149,10 +146,14 @@ pub fn is_forged(channel: Channel, maced: bool, ins: u8, x: &[u8]) -> bool
     if !maced {
         return false;
     }
-    let stage = channel.stage;
-    let secret = channel.secret;
-    let ti = channel.ti;
-    let right = sealing::seal(secret, ins, stage.counter(), ti, modes::plain(maced, x));
+    let counter = channel.stage.counter();
+    let right = sealing::seal(
+        channel.secret,
+        ins,
+        counter,
+        channel.ti,
+        modes::plain(maced, x),
+    );
     !wire::is_same(modes::mac(x), &right)
 }
 
