@@ -49,6 +49,7 @@ fn nibble_is_sound(n: u8) -> bool
 }
 
 // Whether no nibble of a file's rights is 5 to Dh.
+#[tactic(auto, unfolding(crate::specs::Rights::rights_sound))]
 pub fn rights_are_sound(x: u16) -> bool
     ensures { result ≡ rights_sound x }
 {
@@ -59,6 +60,7 @@ pub fn rights_are_sound(x: u16) -> bool
     r & w & rw & ch
 }
 
+#[tactic(auto, unfolding(crate::specs::Rights::sealed))]
 fn is_sealed(x: u16, by_read: bool, by_write: bool) -> bool
     ensures { result ≡ sealed x by_read by_write }
 {
@@ -69,6 +71,7 @@ fn is_sealed(x: u16, by_read: bool, by_write: bool) -> bool
 }
 
 // Whether a condition that could grant the command is k.
+#[tactic(auto, unfolding(crate::specs::Rights::granting))]
 fn is_granting(k: u8, x: u16, by_read: bool, by_write: bool) -> bool
     ensures { result ≡ granting k x by_read by_write }
 {
@@ -96,6 +99,7 @@ pub fn is_session_sound(session: Option<u8>) -> bool
 }
 
 // Whether a command is granted on a file, and through which door: by Read if by_read, by Write if by_write, by ReadWrite, or freely.
+#[tactic(auto, unfolding(crate::specs::Rights::access_of, tables::specs::Choice::pick))]
 pub fn decide(x: u16, session: Option<u8>, by_read: bool, by_write: bool, freely: bool) -> Access
     ensures { result ≡ access_of x session by_read by_write freely }
 {

@@ -10,6 +10,7 @@ use channel::{Channel, Inputs, Stage};
 use keys::Keys;
 
 // The channel behind an accepted first part.
+#[tactic(auto, unfolding(crate::specs::Authentication::begun))]
 pub fn begin(inputs: Inputs, d: &[u8]) -> Channel
     ensures { result ≡ begun inputs d.now }
 {
@@ -27,22 +28,21 @@ pub fn begin(inputs: Inputs, d: &[u8]) -> Channel
 }
 
 // The data of its reply.
+#[tactic(auto, unfolding(crate::specs::Authentication::first_shown))]
 pub fn show_first(keys: Keys, inputs: Inputs, d: &[u8]) -> [u8; 16]
     ensures { result ≡ first_shown keys inputs d.now }
 {
-    let random = inputs.random;
-    handshake::first_reply(keys.at(wire::byte_at(d, 0)), random)
+    handshake::first_reply(keys.at(wire::byte_at(d, 0)), inputs.random)
 }
 
 // The channel behind a second part.
+#[tactic(auto, unfolding(crate::specs::Guarded::opened_in))]
 pub fn open(keys: Keys, channel: Channel, d: &[u8]) -> Channel
     ensures { result ≡ opened_in keys channel d.now }
 {
-    let stage = channel.stage;
-    let k = stage.key();
-    let b = channel.secret;
+    let k = channel.stage.key();
     let ti = channel.ti;
-    let secret = handshake::session_key(keys.at(k), b, d);
+    let secret = handshake::session_key(keys.at(k), channel.secret, d);
     Channel {
         stage: Stage::Real(k, 0),
         secret,
@@ -53,11 +53,9 @@ pub fn open(keys: Keys, channel: Channel, d: &[u8]) -> Channel
 }
 
 // The data of its reply.
+#[tactic(auto, unfolding(crate::specs::Guarded::second_in))]
 pub fn show_second(keys: Keys, channel: Channel, d: &[u8]) -> [u8; 32]
     ensures { result ≡ second_in keys channel d.now }
 {
-    let stage = channel.stage;
-    let ti = channel.ti;
-    let caps = channel.caps;
-    handshake::second_reply(keys.at(stage.key()), ti, caps, d)
+    handshake::second_reply(keys.at(channel.stage.key()), channel.ti, channel.caps, d)
 }

@@ -21,6 +21,7 @@ const MOST_BYTES: usize = 128;
 
 impl Chain {
     // No chain.
+    #[tactic(auto, unfolding(crate::specs::Chain::unchained))]
     pub fn none() -> Chain
         ensures { result ≡ unchained }
     {
@@ -33,6 +34,7 @@ impl Chain {
     }
 
     // The chain that an opening's data field announces for the file that it names.
+    #[tactic(auto, unfolding(crate::specs::Chain::announced))]
     pub fn announced(file: Role, d: &[u8]) -> Chain
         ensures { result ≡ announced file d.now }
     {
@@ -56,6 +58,7 @@ impl Chain {
     }
 
     // Whether a frame of n bytes is of another size, or past the announced length.
+    #[tactic(auto, unfolding(crate::specs::Chain::wrong_bytes))]
     pub fn is_wrong(self, n: usize) -> bool
         ensures { result ≡ wrong_bytes self n }
     {
@@ -63,6 +66,7 @@ impl Chain {
     }
 
     // What n bytes more leave of it.
+    #[tactic(auto, unfolding(crate::specs::Chain::shortened, tables::specs::Choice::pick))]
     pub fn shortened(self, n: usize) -> Chain
         ensures { result ≡ shortened self n }
     {
@@ -77,6 +81,7 @@ impl Chain {
 
     // Whether it keeps the standing rule: without a chain it names no file and every figure is 0, and an open one has a data file
     // and a range inside it.
+    #[tactic(auto, unfolding(crate::specs::Chain::chain_sound, tables::specs::Choice::pick))]
     pub fn is_sound(self) -> bool
         ensures { result ≡ chain_sound self }
     {

@@ -122,6 +122,7 @@ impl Stage {
 
 impl Channel {
     // A stage that needs no bytes, and no chain.
+    #[tactic(auto, unfolding(crate::specs::Channel::bare))]
     pub fn bare(stage: Stage) -> Channel
         ensures { result ≡ bare stage }
     {
@@ -135,6 +136,7 @@ impl Channel {
     }
 
     // The channel after an accepted command.
+    #[tactic(auto, unfolding(crate::specs::Channel::counted))]
     pub fn counted(self) -> Channel
         ensures { result ≡ counted self }
     {
@@ -145,6 +147,7 @@ impl Channel {
     }
 
     // The channel with another chain.
+    #[tactic(auto, unfolding(crate::specs::Channel::chained))]
     pub fn chained(self, chain: Chain) -> Channel
         ensures { result ≡ chained self chain }
     {
@@ -152,6 +155,7 @@ impl Channel {
     }
 
     // The channel after n bytes of the open chain.
+    #[tactic(auto, unfolding(crate::specs::Channel::advanced, tables::specs::Choice::pick))]
     pub fn advanced(self, n: usize) -> Channel
         ensures { result ≡ advanced self n }
     {

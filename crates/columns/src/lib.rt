@@ -22,6 +22,7 @@ pub struct Row {
 }
 
 impl Row {
+    #[tactic(auto, unfolding(crate::specs::Row::row_of))]
     pub fn of_command(ins: u8) -> Row
         ensures { result ≡ row_of ins }
     {
@@ -35,30 +36,30 @@ impl Row {
     }
 }
 
+// The columns compare without a branch, so that a caller makes those that it asks for in line: as matches! the row is a call that
+// makes all five, and an event takes an eighth more instructions.
 fn on_data(ins: u8) -> bool
     ensures { result ≡ on_data ins }
 {
-    matches!(ins, table::READ_DATA | table::WRITE_DATA)
+    (ins == table::READ_DATA) | (ins == table::WRITE_DATA)
 }
 
 fn on_value(ins: u8) -> bool
     ensures { result ≡ on_value ins }
 {
-    matches!(
-        ins,
-        table::GET_VALUE | table::CREDIT | table::DEBIT | table::LIMITED_CREDIT
-    )
+    (ins == table::GET_VALUE)
+        | (ins == table::CREDIT)
+        | (ins == table::DEBIT)
+        | (ins == table::LIMITED_CREDIT)
 }
 
 fn on_log(ins: u8) -> bool
     ensures { result ≡ on_log ins }
 {
-    matches!(
-        ins,
-        table::READ_RECORDS | table::WRITE_RECORD | table::CLEAR_RECORD_FILE
-    )
+    (ins == table::READ_RECORDS) | (ins == table::WRITE_RECORD) | (ins == table::CLEAR_RECORD_FILE)
 }
 
+#[tactic(auto, unfolding(crate::specs::Table::on_file))]
 fn on_file(ins: u8) -> bool
     ensures { result ≡ on_file ins }
 {
@@ -66,6 +67,7 @@ fn on_file(ins: u8) -> bool
 }
 
 // The commands on a file, and GetFileSettings.
+#[tactic(auto, unfolding(crate::specs::Table::names_file))]
 fn names_file(ins: u8) -> bool
     ensures { result ≡ names_file ins }
 {
@@ -77,32 +79,30 @@ fn names_file(ins: u8) -> bool
 fn ends_all(ins: u8) -> bool
     ensures { result ≡ ends ins }
 {
-    matches!(ins, table::COMMIT_TRANSACTION | table::ABORT_TRANSACTION)
+    (ins == table::COMMIT_TRANSACTION) | (ins == table::ABORT_TRANSACTION)
 }
 
 fn by_read(ins: u8) -> bool
     ensures { result ≡ by_read ins }
 {
-    matches!(
-        ins,
-        table::READ_DATA | table::GET_VALUE | table::DEBIT | table::READ_RECORDS
-    )
+    (ins == table::READ_DATA)
+        | (ins == table::GET_VALUE)
+        | (ins == table::DEBIT)
+        | (ins == table::READ_RECORDS)
 }
 
 fn by_write(ins: u8) -> bool
     ensures { result ≡ by_write ins }
 {
-    matches!(
-        ins,
-        table::WRITE_DATA
-            | table::GET_VALUE
-            | table::DEBIT
-            | table::LIMITED_CREDIT
-            | table::WRITE_RECORD
-    )
+    (ins == table::WRITE_DATA)
+        | (ins == table::GET_VALUE)
+        | (ins == table::DEBIT)
+        | (ins == table::LIMITED_CREDIT)
+        | (ins == table::WRITE_RECORD)
 }
 
 // Whether a file of this role is of the kind on which the command acts.
+#[tactic(auto, unfolding(crate::specs::Table::suits))]
 pub fn suits_file(ins: u8, role: Role) -> bool
     ensures { result ≡ suits ins role }
 {

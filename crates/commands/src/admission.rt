@@ -11,6 +11,7 @@ use columns::{Row, table};
 use keys::Keys;
 use roles::Role;
 
+#[tactic(auto, unfolding(columns::specs::Row::row_of))]
 fn is_base(ins: u8) -> bool
     ensures { result ≡ is_base ins }
 {
@@ -18,6 +19,7 @@ fn is_base(ins: u8) -> bool
     row.names | row.ends
 }
 
+#[tactic(auto, unfolding(rows::specs::Rows::unknown_command))]
 pub fn unknown_command(opening: bool, stage: Stage, ins: u8) -> bool
     ensures { result ≡ unknown_command opening stage ins }
 {
@@ -29,6 +31,7 @@ pub fn unknown_command(opening: bool, stage: Stage, ins: u8) -> bool
     !(base | (ins == table::AUTHENTICATE_FIRST) | ((ins == table::AUTHENTICATE_SECOND) & waits))
 }
 
+#[tactic(auto, unfolding(rows::specs::Rows::interrupts))]
 pub fn interrupts(stage: Stage, chain: Chain, ins: u8) -> bool
     ensures { result ≡ interrupts stage chain ins }
 {
@@ -37,6 +40,7 @@ pub fn interrupts(stage: Stage, chain: Chain, ins: u8) -> bool
 }
 
 // How many bytes stand behind a write's length field.
+#[tactic(auto, unfolding(rows::specs::Rows::sent_of))]
 fn sent(opening: bool, d: &[u8]) -> u32
     ensures { result ≡ sent_of opening d.now }
 {
@@ -47,50 +51,22 @@ fn sent(opening: bool, d: &[u8]) -> u32
 }
 
 // A row each, and the row of the command alone is asked.
+#[tactic(auto, unfolding(rows::specs::Rows::length_cases))]
 pub fn wrong_length(opening: bool, ins: u8, d: &[u8]) -> bool
     ensures { result ≡ wrong_length opening ins d.now }
 {
     let n = d.len();
-    if ins == table::READ_DATA {
-        return n != 7;
+    match ins {
+        table::READ_DATA | table::READ_RECORDS => n != 7,
+        table::WRITE_DATA | table::WRITE_RECORD => n != sent(opening, d) as usize + 7,
+        table::GET_VALUE | table::CLEAR_RECORD_FILE | table::GET_FILE_SETTINGS => n != 1,
+        table::CREDIT | table::DEBIT | table::LIMITED_CREDIT => n != 5,
+        table::COMMIT_TRANSACTION => 1 < n,
+        table::ABORT_TRANSACTION => 0 < n,
+        table::AUTHENTICATE_FIRST => (n < 2) | (n != wire::byte_at(d, 1) as usize + 2),
+        table::AUTHENTICATE_SECOND => n != 32,
+        _ => false,
     }
-    if ins == table::WRITE_DATA {
-        return n != sent(opening, d) as usize + 7;
-    }
-    if ins == table::GET_VALUE {
-        return n != 1;
-    }
-    if ins == table::CREDIT {
-        return n != 5;
-    }
-    if ins == table::DEBIT {
-        return n != 5;
-    }
-    if ins == table::LIMITED_CREDIT {
-        return n != 5;
-    }
-    if ins == table::READ_RECORDS {
-        return n != 7;
-    }
-    if ins == table::WRITE_RECORD {
-        return n != sent(opening, d) as usize + 7;
-    }
-    if ins == table::CLEAR_RECORD_FILE {
-        return n != 1;
-    }
-    if ins == table::COMMIT_TRANSACTION {
-        return 1 < n;
-    }
-    if ins == table::ABORT_TRANSACTION {
-        return 0 < n;
-    }
-    if ins == table::GET_FILE_SETTINGS {
-        return n != 1;
-    }
-    if ins == table::AUTHENTICATE_FIRST {
-        return (n < 2) | (n != wire::byte_at(d, 1) as usize + 2);
-    }
-    (ins == table::AUTHENTICATE_SECOND) & (n != 32)
 }
 
 // Whether a command that is in MAC mode, if sealed says so, carries a MAC.
@@ -103,12 +79,14 @@ pub fn carries(opening: bool, sealed: bool) -> bool
     sealed
 }
 
+#[tactic(auto, unfolding(rows::specs::Rows::lacks_mac))]
 pub fn lacks_mac(maced: bool, x: &[u8]) -> bool
     ensures { result ≡ lacks_mac maced x.now }
 {
     maced & (x.len() < modes::MAC_SIZE)
 }
 
+#[tactic(auto, unfolding(rows::specs::Rows::unknown_file, columns::specs::Row::row_of))]
 pub fn unknown_file(ins: u8, role: Role) -> bool
     ensures { result ≡ unknown_file ins role }
 {
@@ -130,6 +108,7 @@ fn is_not_granted(access: Access) -> bool
     access == Access::NotGranted
 }
 
+#[tactic(auto, unfolding(rows::specs::Rows::other_kind_or_never, columns::specs::Row::row_of))]
 pub fn other_kind_or_never(ins: u8, role: Role, access: Access) -> bool
     ensures { result ≡ other_kind_or_never ins role access }
 {
@@ -139,6 +118,7 @@ pub fn other_kind_or_never(ins: u8, role: Role, access: Access) -> bool
     row.file & (!suited | never)
 }
 
+#[tactic(auto, unfolding(rows::specs::Rows::not_granted, columns::specs::Row::row_of))]
 pub fn not_granted(ins: u8, access: Access) -> bool
     ensures { result ≡ not_granted ins access }
 {
@@ -148,32 +128,36 @@ pub fn not_granted(ins: u8, access: Access) -> bool
 }
 
 // Nothing of the cryptography runs but for a second part of its right length.
+#[tactic(auto, unfolding(rows::specs::Rows::part_fails))]
 pub fn part_fails(keys: Keys, channel: Channel, ins: u8, d: &[u8]) -> bool
     ensures { result ≡ part_fails keys channel ins d.now }
 {
     if ins != table::AUTHENTICATE_SECOND {
         return false;
     }
-    let stage = channel.stage;
-    let key = keys.at(stage.key());
-    let secret = channel.secret;
-    handshake::is_failed(key, secret, d)
+    handshake::is_failed(keys.at(channel.stage.key()), channel.secret, d)
 }
 
 // Nor but for a command that carries a MAC.
+#[tactic(auto, unfolding(rows::specs::Rows::forged))]
 pub fn is_forged(channel: Channel, maced: bool, ins: u8, x: &[u8]) -> bool
     ensures { result ≡ forged channel maced ins x.now }
 {
     if !maced {
         return false;
     }
-    let stage = channel.stage;
-    let secret = channel.secret;
-    let ti = channel.ti;
-    let right = sealing::seal(secret, ins, stage.counter(), ti, modes::plain(maced, x));
+    let counter = channel.stage.counter();
+    let right = sealing::seal(
+        channel.secret,
+        ins,
+        counter,
+        channel.ti,
+        modes::plain(maced, x),
+    );
     !wire::is_same(modes::mac(x), &right)
 }
 
+#[tactic(auto, unfolding(rows::specs::Rows::used_up))]
 pub fn used_up(stage: Stage, ins: u8) -> bool
     ensures { result ≡ used_up stage ins }
 {

@@ -14,6 +14,7 @@ pub struct Keys {
 }
 
 impl Keys {
+    #[tactic(auto, unfolding(crate::specs::Keys::zeros))]
     pub fn zeros() -> Keys
         ensures { result ≡ zeros }
     {
@@ -21,6 +22,7 @@ impl Keys {
     }
 
     // The key of number n.
+    #[tactic(auto, unfolding(crate::specs::Keys::key_at))]
     pub fn at(self, n: u8) -> [u8; 16]
         ensures { result ≡ key_at self n }
     {

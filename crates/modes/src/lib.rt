@@ -28,6 +28,7 @@ fn is_free_only(access: Access) -> bool
 }
 
 // What the data field x names; an empty one names no file.
+#[tactic(auto, unfolding(crate::specs::Modes::role_in, tables::specs::Choice::pick))]
 pub fn named(settings: Settings, x: &[u8]) -> Named
     ensures { result ≡ named_by settings (role_in settings x.now) }
 {
@@ -38,6 +39,7 @@ pub fn named(settings: Settings, x: &[u8]) -> Named
 }
 
 // Whether the command carries a MAC at this stage: access to its file was answered, and maced says that the file is in MAC mode.
+#[tactic(auto, unfolding(crate::specs::Modes::maced_under, columns::specs::Row::row_of))]
 pub fn is_maced(access: Access, maced: bool, stage: Stage, ins: u8) -> bool
     ensures { result ≡ maced_under access maced stage ins }
 {
@@ -60,6 +62,7 @@ fn mac_start(n: usize) -> usize
 }
 
 // Where the data field without its MAC ends.
+#[tactic(auto, unfolding(tables::specs::Choice::pick))]
 fn plain_end(maced: bool, n: usize) -> usize
     ensures { result ≡ pick maced (n - mac_size) n }
 {
@@ -70,6 +73,7 @@ fn plain_end(maced: bool, n: usize) -> usize
 }
 
 // The data field without its MAC, where it has one.
+#[tactic(auto, unfolding(crate::specs::Modes::plain_of, tables::specs::Choice::pick))]
 pub fn plain(maced: bool, x: &[u8]) -> &[u8]
     ensures { result.now ≡ plain_of maced x.now }
 {
@@ -78,6 +82,7 @@ pub fn plain(maced: bool, x: &[u8]) -> &[u8]
 }
 
 // The MAC: the last eight bytes.
+#[tactic(auto, unfolding(crate::specs::Modes::mac_of))]
 pub fn mac(x: &[u8]) -> &[u8]
     ensures { result.now ≡ mac_of x.now }
 {

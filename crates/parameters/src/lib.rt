@@ -11,6 +11,7 @@ use logfile::Log;
 use purse::Purse;
 use roles::Role;
 
+#[tactic(auto, unfolding(rows::specs::Rows::switched_off))]
 pub fn switched_off(ins: u8, limited: bool, clears: bool) -> bool
     ensures { result ≡ switched_off ins limited clears }
 {
@@ -35,72 +36,58 @@ fn is_no_key(d: &[u8]) -> bool
 }
 
 // A command's own parameter is read for that command alone: a read of four bytes with its bounds costs more than the choice.
+#[tactic(auto, unfolding(rows::specs::Rows::parameter_cases))]
 pub fn bad_parameter(ins: u8, d: &[u8]) -> bool
     ensures { result ≡ bad_parameter ins d.now }
 {
-    if ins == table::CREDIT {
-        return is_no_amount(d);
+    match ins {
+        table::CREDIT | table::DEBIT | table::LIMITED_CREDIT => is_no_amount(d),
+        table::WRITE_DATA | table::WRITE_RECORD => wire::le3_at(d, 4) == 0,
+        table::COMMIT_TRANSACTION => wire::byte_at(d, 0) != 0,
+        table::AUTHENTICATE_FIRST => is_no_key(d),
+        _ => false,
     }
-    if ins == table::DEBIT {
-        return is_no_amount(d);
-    }
-    if ins == table::LIMITED_CREDIT {
-        return is_no_amount(d);
-    }
-    if ins == table::WRITE_DATA {
-        return wire::le3_at(d, 4) == 0;
-    }
-    if ins == table::WRITE_RECORD {
-        return wire::le3_at(d, 4) == 0;
-    }
-    if ins == table::COMMIT_TRANSACTION {
-        return wire::byte_at(d, 0) != 0;
-    }
-    if ins == table::AUTHENTICATE_FIRST {
-        return is_no_key(d);
-    }
-    false
 }
 
 // Whether the command has an offset and a length.
+#[tactic(auto, unfolding(rows::specs::Rows::ranged))]
 fn has_range(ins: u8) -> bool
     ensures { result ≡ ranged ins }
 {
-    (ins == table::READ_DATA)
-        | (ins == table::WRITE_DATA)
-        | (ins == table::READ_RECORDS)
-        | (ins == table::WRITE_RECORD)
+    matches!(
+        ins,
+        table::READ_DATA | table::WRITE_DATA | table::READ_RECORDS | table::WRITE_RECORD
+    )
 }
 
 // The room that they are held to.
+#[tactic(auto, unfolding(rows::specs::Rows::room_of, tables::specs::Choice::pick))]
 fn room_of(ins: u8, role: Role, entries: u8) -> usize
     ensures { result ≡ room_of ins role entries }
 {
-    if ins == table::READ_RECORDS {
-        return entries as usize;
+    match ins {
+        table::READ_RECORDS => entries as usize,
+        table::WRITE_RECORD => Log::ENTRY,
+        _ => role.size(),
     }
-    if ins == table::WRITE_RECORD {
-        return Log::ENTRY;
-    }
-    role.size()
 }
 
 // Whether an amount passes a limit or the allowance.
+#[tactic(auto, unfolding(rows::specs::Rows::amount_cases))]
 fn amount_is_outside(limits: Limits, purse: Purse, ins: u8, amount: u32) -> bool
     ensures { result ≡ outside_amount limits purse ins amount }
 {
-    if ins == table::DEBIT {
-        return !limits.hold_fall(purse.pending, amount);
+    match ins {
+        table::DEBIT => !limits.hold_fall(purse.pending, amount),
+        table::CREDIT => !limits.hold_rise(purse.pending, amount),
+        table::LIMITED_CREDIT => {
+            !limits.hold_rise(purse.pending, amount) | (purse.left < amount)
+        }
+        _ => false,
     }
-    if ins == table::CREDIT {
-        return !limits.hold_rise(purse.pending, amount);
-    }
-    if ins == table::LIMITED_CREDIT {
-        return !limits.hold_rise(purse.pending, amount) | (purse.left < amount);
-    }
-    false
 }
 
+#[tactic(auto, unfolding(rows::specs::Rows::outside, tables::specs::Choice::pick))]
 pub fn is_outside(limits: Limits, purse: Purse, entries: u8, ins: u8, role: Role, d: &[u8]) -> bool
     ensures { result ≡ outside limits purse entries ins role d.now }
 {
@@ -114,6 +101,7 @@ pub fn is_outside(limits: Limits, purse: Purse, entries: u8, ins: u8, role: Role
 // The most bytes that a ReadData in MAC mode shows.
 const MACED_READ: usize = 248;
 
+#[tactic(auto, unfolding(rows::specs::Rows::long_read))]
 pub fn is_long_read(maced: bool, ins: u8, role: Role, d: &[u8]) -> bool
     ensures { result ≡ long_read maced ins role d.now }
 {
@@ -128,6 +116,7 @@ pub fn is_long_read(maced: bool, ins: u8, role: Role, d: &[u8]) -> bool
     from as usize + MACED_READ < end
 }
 
+#[tactic(auto, unfolding(rows::specs::Rows::nothing_pending, columns::specs::Row::row_of))]
 pub fn nothing_pending(ins: u8, value: bool, log: bool) -> bool
     ensures { result ≡ nothing_pending ins value log }
 {

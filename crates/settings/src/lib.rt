@@ -75,6 +75,7 @@ impl FileSettings {
 
 impl Settings {
     // The same rights for every file, default numbers, plain modes, and GetValue not free.
+    #[tactic(auto, unfolding(crate::specs::Settings::alike))]
     pub fn alike(rights: u16, limits: Limits, limited: bool) -> Settings
         ensures { result ≡ alike rights limits limited }
     {
@@ -91,6 +92,7 @@ impl Settings {
     }
 
     // What the number n names. The file comes with the role, in one search: a choice by the role later would be a jump by a table.
+    #[tactic(auto, unfolding(crate::specs::Settings::role_of, tables::specs::Choice::pick))]
     pub fn named(self, n: u8) -> Named
         ensures { result ≡ named_by self (role_of self n) }
     {
@@ -147,6 +149,7 @@ impl Settings {
     }
 
     // Whether the command may be used on a file with these rights under this session.
+    #[tactic(auto, unfolding(columns::specs::Row::row_of))]
     pub fn access_by(self, rights: u16, session: Option<u8>, ins: u8) -> Access
         ensures { result ≡ access_by self rights session ins }
     {
@@ -161,6 +164,7 @@ impl Settings {
     }
 
     // Whether a rights nibble is 5 to Dh.
+    #[tactic(auto, unfolding(crate::specs::Settings::rights_broken))]
     pub fn has_wrong_rights(self) -> bool
         ensures { result ≡ rights_broken self }
     {
@@ -180,6 +184,7 @@ impl Settings {
     }
 
     // Whether a file's number is above 1Fh.
+    #[tactic(auto, unfolding(crate::specs::Settings::number_above))]
     pub fn has_number_above(self) -> bool
         ensures { result ≡ number_above self }
     {
@@ -191,6 +196,7 @@ impl Settings {
     }
 
     // Whether two files have the same number.
+    #[tactic(auto, unfolding(crate::specs::Settings::number_twice))]
     pub fn has_number_twice(self) -> bool
         ensures { result ≡ number_twice self }
     {
