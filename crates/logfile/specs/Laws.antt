@@ -1,7 +1,6 @@
 -- Laws of view and put.
 use Rattle.logfile.specs.declared.Log.{Log}
 use Rattle.logfile.specs.Journal.{Journal, fresh_or, some}
-use Rattle.logfile.specs.View.{view, put}
 
 -- the log with the journal's pending part, its entries as they are
 abbrev pub beside : Log → Journal → Log

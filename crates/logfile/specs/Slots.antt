@@ -3,8 +3,7 @@ use Rattle.std.specs.Prelude.{ℕ, zero, suc, ◌≡◌}
 use mathlib.Core.List.{List}
 use Rattle.wire.specs.Bytes.{laid}
 use Rattle.logfile.specs.declared.Log.{Log}
-use Rattle.logfile.specs.Journal.{stored}
-use Rattle.logfile.specs.Ring.{slot_at, slot, newer}
+use Rattle.logfile.specs.Ring.{slot_at, newer}
 
 -- n slot bytes were stored between the logs a and b: none, or the entry e in the slot behind the newest
 abbrev pub Stores : ℕ → List ℕ → Log → Log → Type 0

@@ -1,19 +1,20 @@
 // The cyclic log: a ring of four slots of 16 bytes, and what is pending on them.
 #![tactic(auto)]
 
-ghost use Rattle.std.specs.Prelude.{min, ◌<◌, [], ◌∷◌, ◌≡◌};
-ghost use Rattle.logfile.specs.Journal.{blank, fresh_or, pushed, resting, written, cleared, dropped};
-ghost use Rattle.wire.specs.Bytes.{laid_in};
+ghost use Rattle.std.specs.Prelude.{[], ◌∷◌, ◌≡◌};
+ghost use Rattle.logfile.specs.Journal.{pushed, resting, written, cleared, dropped};
 ghost use Rattle.logfile.specs.Ring.{newer};
 ghost use Rattle.logfile.specs.View.{view, put, committed, empty};
 
 #[derive(Clone, Copy)]
 pub struct Log {
-    // Stored entries: count of them, the newest in slot place, each older one in the slot before, counted round.
+    // Stored entries: count of them, the newest in slot place, each older one in the slot before, counted round. They are bytes, and
+    // no array of entries: `slot_at`, `ringed` and `slots_kept` count them byte by byte.
     pub slots: [u8; Log::SLOTS],
     pub place: u8,
     pub count: u8,
-    // The new entry, where one is pending; whether one is, and whether a clear is.
+    // The new entry, where one is pending; whether one is, and whether a clear is. The entry is no Option: its bytes stay where none
+    // is pending, as `put` says, and `slots_kept` speaks of them.
     pub entry: [u8; Log::ENTRY],
     pub adds: bool,
     pub clears: bool,
@@ -61,23 +62,14 @@ impl Log {
         }
     }
 
-    // The new entry as it stands: one of zeros, where there is none yet.
-    fn fresh(self) -> [u8; Log::ENTRY]
-        ensures { result ≡ fresh_or blank (view self).fresh }
-    {
-        if !self.adds {
-            return [0; Log::ENTRY];
-        }
-        self.entry
-    }
-
-    // WriteRecord.
+    // WriteRecord: into the new entry, which starts as zeros.
     pub fn write(mut self, off: u32, bytes: &[u8]) -> Log
         ensures { result ≡ put self 0 (written (view self) off bytes.now) }
     {
-        let mut entry = self.fresh();
-        wire::lay(&mut entry, off as usize, bytes);
-        self.entry = entry;
+        if !self.adds {
+            self.entry = [0; Log::ENTRY];
+        }
+        wire::lay(&mut self.entry, off as usize, bytes);
         self.adds = true;
         self
     }
@@ -86,9 +78,10 @@ impl Log {
     pub fn clear(self) -> Log
         ensures { result ≡ put self 0 (cleared (view self)) }
     {
-        let mut next = self.drop_pending();
-        next.clears = true;
-        next
+        Log {
+            clears: true,
+            ..self.drop_pending()
+        }
     }
 
     // The log with no entry and nothing pending.
@@ -99,38 +92,20 @@ impl Log {
         self.drop_pending()
     }
 
-    // The number of entries that stay beside a new one.
-    fn kept(self) -> u8
-        ensures { result ≡ min 3 self.count }
-    {
-        if Log::BESIDE < self.count {
-            return Log::BESIDE;
-        }
-        self.count
-    }
-
     // The slot behind the newest entry.
     fn next_place(self) -> u8
         ensures { result ≡ newer self.place }
     {
-        (self.place % Log::MOST + 1) % Log::MOST
-    }
-
-    // Stores an entry's bytes from at on.
-    fn store(slots: &mut [u8; Log::SLOTS], at: usize, entry: &[u8; Log::ENTRY])
-        ensures { slots.new ≡ laid_in slots.old at entry.now }
-    {
-        wire::lay(slots, at, entry);
+        self.place.wrapping_add(1) % Log::MOST
     }
 
     // The new entry goes into the slot behind the newest, and no other moves; a fifth takes the oldest's.
     fn push(mut self) -> Log
         ensures { result ≡ put self 16 (resting (pushed (self.entry ∷ []) (view self).entries)) }
     {
-        let kept = self.kept();
+        let kept = self.count.min(Log::BESIDE);
         let place = self.next_place();
-        let entry = self.entry;
-        Log::store(&mut self.slots, Self::ENTRY * place as usize, &entry);
+        wire::lay(&mut self.slots, Log::ENTRY * place as usize, &self.entry);
         self.place = place;
         self.count = kept + 1;
         self.drop_pending()
@@ -141,18 +116,21 @@ impl Log {
         ensures { result ≡ committed self }
     {
         if self.clears {
-            let log = self.emptied();
-            return Stored { log, stored: 0 };
-        }
-        if self.adds {
-            let log = self.push();
-            return Stored {
-                log,
+            Stored {
+                log: self.emptied(),
+                stored: 0,
+            }
+        } else if self.adds {
+            Stored {
+                log: self.push(),
                 stored: Log::STORED,
-            };
+            }
+        } else {
+            Stored {
+                log: self.drop_pending(),
+                stored: 0,
+            }
         }
-        let log = self.drop_pending();
-        Stored { log, stored: 0 }
     }
 
     // What is pending goes; the entries stay.

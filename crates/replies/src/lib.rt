@@ -25,6 +25,7 @@ fn show_value(value: i32, reply: &mut [u8]) -> usize
 }
 
 // Lays what the command shows over the front of reply, and answers its length.
+#[tactic(auto, unfolding(wire::specs::Bytes::laid, crate::specs::Guarded::shown_in, tables::specs::Choice::pick))]
 pub fn show(
     settings: Settings,
     files: Files,
@@ -37,17 +38,17 @@ pub fn show(
 ) -> usize
     ensures { Shows (shown_in (length reply.old) settings files purse log ins role d.now) reply.old reply.new result }
 {
-    if ins == table::READ_DATA {
-        return files.show(role, wire::le3_at(d, 1), wire::le3_at(d, 4), reply);
+    match ins {
+        table::READ_DATA => files.show(role, wire::le3_at(d, 1), wire::le3_at(d, 4), reply),
+        table::GET_VALUE => show_value(purse.value, reply),
+        table::READ_RECORDS => records::show(log, wire::le3_at(d, 1), wire::le3_at(d, 4), reply),
+        table::GET_FILE_SETTINGS => description::show(
+            settings,
+            purse.allowance,
+            log.count,
+            role,
+            reply,
+        ),
+        _ => 0,
     }
-    if ins == table::GET_VALUE {
-        return show_value(purse.value, reply);
-    }
-    if ins == table::READ_RECORDS {
-        return records::show(log, wire::le3_at(d, 1), wire::le3_at(d, 4), reply);
-    }
-    if ins == table::GET_FILE_SETTINGS {
-        return description::show(settings, purse.allowance, log.count, role, reply);
-    }
-    0
 }

@@ -7,4 +7,4 @@ use Rattle.logfile.proofs.Log.clear.Goals as goal
 
 pub returns : goal.returns
 unfolding put dropped cleared resting
-returns c = ap (λ (l : Log). record { slots = l.slots; place = l.place; count = l.count; entry = l.entry; adds = l.adds; clears = true }) c.drop_pending-next.ensures
+returns c = ap (λ (l : Log). record { slots = l.slots; place = l.place; count = l.count; entry = l.entry; adds = l.adds; clears = true }) c.drop_pending.ensures
