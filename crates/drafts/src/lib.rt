@@ -29,12 +29,12 @@ fn write_line(draft: Draft, line: &[u8], text: &mut [u8]) -> Step
         return parts::put_unread(draft, text);
     }
     if n == 0 {
-        return parts::put_same(held::over(draft), line, text);
+        return parts::put_same(draft.over(), line, text);
     }
     let mut bytes = [0u8; LONGEST_FRAME];
     let size = text::spell(line, &mut bytes);
     if 2 * size == n {
-        return parts::put_same(held::sent(draft, &bytes[0..size]), line, text);
+        return parts::put_same(draft.sent(&bytes[0..size]), line, text);
     }
     letters::put_lettered(draft, line, text)
 }
