@@ -31,10 +31,10 @@ fn put_spelt(
         return parts::put_same(parts::noted(draft, b), line, text);
     }
     if (letter == b'C') & (2 <= n) & digits {
-        return parts::put_same(held::counted(draft), line, text);
+        return parts::put_same(draft.counted(), line, text);
     }
     if (letter == b'S') | (letter == b'P') {
-        return parts::put_same(held::over(draft), line, text);
+        return parts::put_same(draft.over(), line, text);
     }
     parts::put_same(draft, line, text)
 }

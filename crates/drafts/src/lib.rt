@@ -10,21 +10,13 @@ ghost use Rattle.lines.specs.Lines.{lines_after, went, Goes};
 ghost use Rattle.drafts.specs.Drafts.{drafted, Writes};
 
 use held::Draft;
-use lines::{LONGEST_FRAME, LONGEST_LINE};
+use lines::{LONGEST_FRAME, LONGEST_LINE, Progress};
 
 // What is held after a line, and the number of characters that it writes.
 #[derive(Clone, Copy)]
 struct Step {
     draft: Draft,
     len: usize,
-}
-
-// How far a draft was read: what is held, the characters read, and the characters written.
-#[derive(Clone, Copy)]
-pub struct Went {
-    pub draft: Draft,
-    pub read: usize,
-    pub written: usize,
 }
 
 // What a line writes, over the front of text.
@@ -37,19 +29,19 @@ fn write_line(draft: Draft, line: &[u8], text: &mut [u8]) -> Step
         return parts::put_unread(draft, text);
     }
     if n == 0 {
-        return parts::put_same(held::over(draft), line, text);
+        return parts::put_same(draft.over(), line, text);
     }
     let mut bytes = [0u8; LONGEST_FRAME];
     let size = text::spell(line, &mut bytes);
     if 2 * size == n {
-        return parts::put_same(held::sent(draft, &bytes[0..size]), line, text);
+        return parts::put_same(draft.sent(&bytes[0..size]), line, text);
     }
     letters::put_lettered(draft, line, text)
 }
 
 // Writes the whole lines of a draft, as far as there is room in out.
-pub fn run(mut draft: Draft, text: &[u8], out: &mut [u8]) -> Went
-    ensures { Goes (went drafted draft (lines_after [] text.now) (length out.old)) out.old out.new result.draft result.read result.written }
+pub fn run(mut draft: Draft, text: &[u8], out: &mut [u8]) -> Progress<Draft>
+    ensures { Goes (went drafted draft (lines_after [] text.now) (length out.old)) out.old out.new result.state result.read result.written }
 {
     let mut line = [0u8; LONGEST_LINE];
     let mut at = 0;
@@ -57,8 +49,8 @@ pub fn run(mut draft: Draft, text: &[u8], out: &mut [u8]) -> Went
     while at < text.len() {
         let e = lines::line_end(text, at);
         if e == text.len() {
-            return Went {
-                draft,
+            return Progress {
+                state: draft,
                 read: at,
                 written: n,
             };
@@ -67,8 +59,8 @@ pub fn run(mut draft: Draft, text: &[u8], out: &mut [u8]) -> Went
         let len = step.len;
         let put = lines::put(&line[0..len], n, out);
         if put == n {
-            return Went {
-                draft,
+            return Progress {
+                state: draft,
                 read: at,
                 written: n,
             };
@@ -77,8 +69,8 @@ pub fn run(mut draft: Draft, text: &[u8], out: &mut [u8]) -> Went
         n = put;
         at = e + 1;
     }
-    Went {
-        draft,
+    Progress {
+        state: draft,
         read: at,
         written: n,
     }

@@ -98,7 +98,7 @@ pub(crate) fn put_maced(draft: Draft, frame: &[u8], text: &mut [u8]) -> Step
     }
     let len = text::put_digits(&bytes[0..n], text);
     Step {
-        draft: held::counted(draft),
+        draft: draft.counted(),
         len,
     }
 }

@@ -2,10 +2,11 @@
 #![tactic(auto)]
 
 ghost use Rattle.std.specs.Prelude.{◌≡◌};
-ghost use Rattle.held.specs.Held.{begun, over, raised, counted, sent};
+ghost use Rattle.held.specs.Held.{begun, over, counted, sent};
 
 // The card's random number and transaction identifier that the last N line handed in, and the session, if one is held, by its
-// MAC key, transaction identifier and command counter.
+// MAC key, transaction identifier and command counter. These three are no Option beside the rest: a session that is over leaves
+// them as they were (`over`, and its edit `over_counter_lost`), and the counter starts at 0 before any session (`begin_counted`).
 #[derive(Clone, Copy)]
 pub struct Draft {
     pub random: [u8; 16],
@@ -30,41 +31,31 @@ impl Draft {
             counter: 0,
         }
     }
-}
 
-// No session is held any more.
-pub fn over(mut draft: Draft) -> Draft
-    ensures { result ≡ over draft }
-{
-    draft.held = false;
-    draft
-}
-
-fn raised(c: u16) -> u16
-    ensures { result ≡ raised c }
-{
-    if c < 0xFFFF {
-        return c + 1;
+    // No session is held any more.
+    pub fn over(mut self) -> Draft
+        ensures { result ≡ over self }
+    {
+        self.held = false;
+        self
     }
-    c
-}
 
-// The command counter up by one.
-pub fn counted(mut draft: Draft) -> Draft
-    ensures { result ≡ counted draft }
-{
-    let c = raised(draft.counter);
-    draft.counter = c;
-    draft
-}
-
-// After a plain frame.
-pub fn sent(draft: Draft, frame: &[u8]) -> Draft
-    ensures { result ≡ sent draft frame.now }
-{
-    let ins = wire::byte_at(frame, 1);
-    if (ins == 0x71) | (ins == 0xAF) {
-        return over(draft);
+    // The command counter up by one.
+    pub fn counted(mut self) -> Draft
+        ensures { result ≡ counted self }
+    {
+        self.counter = self.counter.saturating_add(1);
+        self
     }
-    counted(draft)
+
+    // After a plain frame.
+    pub fn sent(self, frame: &[u8]) -> Draft
+        ensures { result ≡ sent self frame.now }
+    {
+        let ins = wire::byte_at(frame, 1);
+        if (ins == 0x71) | (ins == 0xAF) {
+            return self.over();
+        }
+        self.counted()
+    }
 }

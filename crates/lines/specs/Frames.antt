@@ -1,6 +1,7 @@
 -- A line of digits, which is a frame, at the front of a text.
-use Rattle.std.specs.Prelude.{Bool, ◌&&◌, ◌||◌, List, [], ℕ, ◌*◌, ◌%◌, eqb, leb, ltb, length, take, get_or}
+use Rattle.std.specs.Prelude.{Bool, ◌&&◌, ◌||◌, List, [], Option, Some, None, ℕ, ◌*◌, ◌%◌, ◌<◌, ◌≡◌, eqb, leb, ltb, length, take, get_or}
 use Rattle.tables.specs.Choice.{pick}
+use Rattle.wire.specs.Bytes.{part}
 use Rattle.text.specs.Hex.{is_hex, spelt, leading}
 use Rattle.lines.specs.Lines.{line_length}
 
@@ -27,3 +28,8 @@ is_chained s = (eqb (get_or s 0 0) 0x43 || eqb (get_or s 0 0) 0x44) && eqb (line
 -- the bytes that a look for a frame spells, found or not: those of the leading pairs of digits, no more than a frame has
 unfoldable pub tried : List ℕ → List ℕ
 tried s = pick (is_chained s) [] (take longest_frame (leading s))
+
+-- the bytes of a frame lie at the front of a buffer, and n is their number; or there is no frame
+abbrev pub Found : List ℕ → List ℕ → Option ℕ → Type 0
+Found frame buffer (Some n) = (0 < n) × (n ≡ length frame) × (part buffer 0 n ≡ frame)
+Found frame buffer None = frame ≡ []

@@ -1,17 +1,37 @@
 // Lines of a text in lent slices.
 #![tactic(auto)]
 
-ghost use Rattle.std.specs.Prelude.{◌≡◌, [], ◌∷◌, ◌++◌, true, ◌+◌, ◌-◌, ◌≤◌, length, drop};
-ghost use Rattle.wire.specs.Bytes.{part, laid};
+ghost use Rattle.std.specs.Prelude.{◌≡◌, ℕ, List, [], ◌∷◌, ◌++◌, true, ◌+◌, ◌-◌, ◌≤◌, length, drop};
+ghost use Rattle.wire.specs.Bytes.{laid};
 ghost use Rattle.text.specs.Shown.{in_room, Adds};
-ghost use Rattle.lines.specs.Lines.{line_length};
-ghost use Rattle.lines.specs.Frames.{frame_in, is_chained, tried};
+ghost use Rattle.lines.specs.Lines.{line_length, lines_after, Said, went, Goes};
+ghost use Rattle.lines.specs.Frames.{frame_in, is_chained, tried, Found};
 ghost use Rattle.lines.specs.Laws.{Nears};
 
 // The most bytes of a frame, and the most characters of a line that is read.
 pub const LONGEST_FRAME: usize = 512;
 
 pub const LONGEST_LINE: usize = 2 * LONGEST_FRAME;
+
+// How far the lines of a text were played: the state behind them, the characters read, and the characters written.
+#[derive(Clone, Copy)]
+pub struct Progress<S> {
+    pub state: S,
+    pub read: usize,
+    pub written: usize,
+}
+
+// What plays a text line by line: each line changes a state, and has an answer.
+pub trait Player {
+    type State: Copy;
+
+    // The state after a line, and its answer.
+    ghost said: { Self.State → List ℕ → Said Self.State };
+
+    // Plays the whole lines of a text, as far as their answers fit out.
+    fn play(&self, state: Self::State, text: &[u8], out: &mut [u8]) -> Progress<Self::State>
+        ensures { Goes (went said state (lines_after [] text.now) (length out.old)) out.old out.new result.state result.read result.written };
+}
 
 // Whether none of the two characters from place i on is LF.
 fn two_more(text: &[u8], i: usize) -> bool
@@ -65,22 +85,23 @@ fn is_chained(text: &[u8], at: usize) -> bool
     false
 }
 
-// Spells the frame that stands at place at, up to its LF, into the front of bytes, and answers the number of its bytes; 0 where
-// the line there is none.
-pub fn spell_frame(text: &[u8], at: usize, bytes: &mut [u8; LONGEST_FRAME]) -> usize
-    ensures { (result ≡ length (frame_in (drop at text.now))) × (part bytes.new 0 result ≡ frame_in (drop at text.now)) × (bytes.new ≡ laid bytes.old 0 (tried (drop at text.now))) }
+// Spells the frame that stands at place at, up to its LF, into the front of bytes, and answers the number of its bytes; None
+// where the line there is none.
+pub fn spell_frame(text: &[u8], at: usize, bytes: &mut [u8; LONGEST_FRAME]) -> Option<usize>
+    ensures frame { Found (frame_in (drop at text.now)) bytes.new result }
+    ensures spelt { bytes.new ≡ laid bytes.old 0 (tried (drop at text.now)) }
 {
     if text.len() <= at {
-        return 0;
+        return None;
     }
     if is_chained(text, at) {
-        return 0;
+        return None;
     }
     let size = text::spell(&text[at..], bytes);
     if (0 < size) & (wire::byte_at(text, at + 2 * size) == b'\n') {
-        return size;
+        return Some(size);
     }
-    0
+    None
 }
 
 // Puts a line and its LF from place at of out on, and answers the place behind; nothing and at where there is no room.

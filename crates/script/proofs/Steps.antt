@@ -1,5 +1,6 @@
 -- A run at a line: its answer does not fit, or was added.
 use Prim.Native.Nat.{ℕ, ◌+◌, ◌-◌, ◌*◌, ◌≤◌, ◌<◌}
+use Rattle.std.specs.Prelude.{Option, Some, None}
 use mathlib.Core.List.{List, [], ◌∷◌, ◌++◌}
 use mathlib.Core.Path.{◌≡◌, refl, sym, ap, ◌∙◌}
 use borrow.Author.Tests.{le-leb}
@@ -13,7 +14,7 @@ use Rattle.text.specs.Shown.{in_room, Adds}
 use Rattle.text.specs.Hex.{in_digits}
 use Rattle.text.specs.Laws.{length_digits}
 use Rattle.lines.specs.Lines.{line_length, lines_after, Said, went, Goes}
-use Rattle.lines.specs.Frames.{frame_in}
+use Rattle.lines.specs.Frames.{frame_in, Found}
 use Rattle.lines.specs.Laws.{Ends}
 use Rattle.lines.proofs.Laws.{line_ends}
 use Rattle.lines.specs.FrameLaws.{Frame}
@@ -64,11 +65,16 @@ written out x n m r bytes a h room e =
 pub front_holds : (x l : List ℕ) (n : ℕ) → n ≡ length x → part l 0 n ≡ x → n ≤ length l
 front_holds x l n e h = omega (arith, length-take (n - 0) l, ap length h, sub-zero n)
 
--- ---- a run that has come to place at, where size bytes of a frame were spelt
+-- a look for a frame that finds none
+pub none_found : (frame buffer : List ℕ) (found : Option ℕ) → ((n : ℕ) → found ≡ Some n → ⊥) → Found frame buffer found → frame ≡ []
+none_found frame buffer (Some n) some f = absurd (some n refl)
+none_found frame buffer None some f = f
 
-module _ (k₀ : Desk) (t b : List ℕ) (k : Desk) (at n : ℕ) (out : List ℕ) (s : Sofar line_said k₀ t b k at n out) (size : ℕ) (q : size ≡ length (frame_in (drop at t))) where
-  -- some: a command, whose reply is r, in the buffer back
-  module _ (p : 0 < size) where
+-- ---- a run that has come to place at
+
+module _ (k₀ : Desk) (t b : List ℕ) (k : Desk) (at n : ℕ) (out : List ℕ) (s : Sofar line_said k₀ t b k at n out) where
+  -- where a frame of size bytes stands: a command, whose reply is r, in the buffer back
+  module _ (size : ℕ) (p : 0 < size) (q : size ≡ length (frame_in (drop at t))) where
     pub line : Frame t at size
     line = frame_line t at size s.place q p
 
@@ -88,15 +94,15 @@ module _ (k₀ : Desk) (t b : List ℕ) (k : Desk) (at n : ℕ) (out : List ℕ)
         pub played_next : (m ≡ n → ⊥) → Sofar line_said k₀ t b (after_event k r.card r.stored) (at + 2 * size + 1) m x
         played_next z = sofar_as line_said k₀ t b _ _ _ m x (desk k (part t at (at + 2 * size)) _ r back command v) (sofar_next line_said k₀ t b k at n out s _ line.0 (omega arith) line.1 x m said z)
 
-  -- none: another line, up to place e
-  module _ (z : size ≤ 0) (e : ℕ) (g : e ≡ at + line_length (drop at t)) where
+  -- where none does: another line, up to place e
+  module _ (z : frame_in (drop at t) ≡ []) (e : ℕ) (g : e ≡ at + line_length (drop at t)) where
     pub ends : Ends t at e
     ends = line_ends t at s.place g
 
     module _ (i : e < length t) (d : Told) (c : said_of d ≡ other_said k (part t at e)) where
       other : said_of d ≡ line_said k (part t at e)
       unfolding line_said
-      other = c ∙ sym (passed _ _ (no_frame t at size s.place q (omega arith) e g i))
+      other = c ∙ sym (passed _ _ (no_frame t at 0 s.place (sym (ap length z)) refl e g i))
 
       module _ (x : List ℕ) (m : ℕ) (a : Adds (in_room (length out - n) ((said_of d).out ++ 0x0A ∷ [])) out n x m) where
         told : Adds (in_room (length out - n) ((line_said k (part t at e)).out ++ 0x0A ∷ [])) out n x m

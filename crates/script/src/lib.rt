@@ -9,16 +9,8 @@ ghost use Rattle.script.specs.Lines.{line_said};
 
 use card::Reply;
 use desk::{Desk, MOST_ROOM};
-use lines::LONGEST_FRAME;
+use lines::{LONGEST_FRAME, Player, Progress};
 use told::Told;
-
-// How far a script was played: the desk, the characters read, and the characters written.
-#[derive(Clone, Copy)]
-pub struct Went {
-    pub desk: Desk,
-    pub read: usize,
-    pub written: usize,
-}
 
 // Puts what is told of a line and LF from place at of out on, and answers the place behind; nothing and at where there is no room.
 fn put_told(told: Told, at: usize, out: &mut [u8]) -> usize
@@ -39,8 +31,8 @@ const MOST_ANSWER: usize = 2 * MOST_ROOM + 1;
 // Plays the whole lines of a text, as far as their answers fit out. The card of the run is the last reply's: a card is long, and
 // its way from a reply back to the desk would be one more copy of it in each turn. A desk that a command may have to leave as it
 // was, for want of room, gets its card before.
-pub fn run(mut desk: Desk, text: &[u8], out: &mut [u8]) -> Went
-    ensures { Goes (went line_said desk (lines_after [] text.now) (length out.old)) out.old out.new result.desk result.read result.written }
+pub fn run(mut desk: Desk, text: &[u8], out: &mut [u8]) -> Progress<Desk>
+    ensures { Goes (went line_said desk (lines_after [] text.now) (length out.old)) out.old out.new result.state result.read result.written }
 {
     let mut frame = [0u8; LONGEST_FRAME];
     let mut reply = [0u8; MOST_ROOM];
@@ -54,8 +46,7 @@ pub fn run(mut desk: Desk, text: &[u8], out: &mut [u8]) -> Went
         len: 0,
     };
     while at < text.len() {
-        let size = lines::spell_frame(text, at, &mut frame);
-        if 0 < size {
+        if let Some(size) = lines::spell_frame(text, at, &mut frame) {
             let lent = desk::lent_room(desk.room);
             let inputs = desk.inputs;
             let card = played.card;
@@ -67,8 +58,8 @@ pub fn run(mut desk: Desk, text: &[u8], out: &mut [u8]) -> Went
             let len = played.len;
             let put = answers::put_line(played.refusal, &reply[0..len], n, out);
             if put == n {
-                return Went {
-                    desk,
+                return Progress {
+                    state: desk,
                     read: at,
                     written: n,
                 };
@@ -82,8 +73,8 @@ pub fn run(mut desk: Desk, text: &[u8], out: &mut [u8]) -> Went
         desk.stored = played.stored;
         let e = lines::line_end(text, at);
         if e == text.len() {
-            return Went {
-                desk,
+            return Progress {
+                state: desk,
                 read: at,
                 written: n,
             };
@@ -91,8 +82,8 @@ pub fn run(mut desk: Desk, text: &[u8], out: &mut [u8]) -> Went
         let told = letters::say(desk, &text[at..e]);
         let put = put_told(told, n, out);
         if put == n {
-            return Went {
-                desk,
+            return Progress {
+                state: desk,
                 read: at,
                 written: n,
             };
@@ -111,9 +102,22 @@ pub fn run(mut desk: Desk, text: &[u8], out: &mut [u8]) -> Went
     let card = played.card;
     desk.card = card;
     desk.stored = played.stored;
-    Went {
-        desk,
+    Progress {
+        state: desk,
         read: at,
         written: n,
+    }
+}
+
+// Plays a script on a desk.
+pub struct Script;
+
+impl Player for Script {
+    type State = Desk;
+
+    ghost said = { line_said };
+
+    fn play(&self, desk: Desk, text: &[u8], out: &mut [u8]) -> Progress<Desk> {
+        run(desk, text, out)
     }
 }

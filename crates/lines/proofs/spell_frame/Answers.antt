@@ -51,16 +51,14 @@ module _ (k : After-spell-size) where
 pub returns-then-text-at : goal.returns-then-text-at
 returns-then-text-at c =
     let a = c.args in
-    let e = frame_past a.text.now a.at c.if-text-at.true in
-    (ap length e, e, tried_past a.text.now a.bytes.now a.at c.if-text-at.true)
+    record { frame = sym (frame_past a.text.now a.at c.if-text-at.true); spelt = tried_past a.text.now a.bytes.now a.at c.if-text-at.true }
 
 pub returns-then-is_chained : goal.returns-then-is_chained
 returns-then-is_chained c =
     let a = c.args in
     let s = drop a.at a.text.now in
     let y = sym c.is_chained.ensures ∙ c.if-is_chained.true in
-    let e = frame_chained s y in
-    (ap length e, e, tried_chained s a.bytes.now y)
+    record { frame = sym (frame_chained s y); spelt = tried_chained s a.bytes.now y }
 
 pub overflow_mul-size : goal.overflow_mul-size
 overflow_mul-size c = omega (arith, (most (goal.at.overflow_mul-size c).After-spell-size).0)
@@ -70,15 +68,17 @@ overflow_add-at c = let l = length-drop c.args.at (text (goal.at.overflow_add-at
 
 pub returns-then-size-byte_at : goal.returns-then-size-byte_at
 returns-then-size-byte_at c =
+    let k = (goal.at.returns-then-size-byte_at c).After-spell-size in
     let r = c.spell-size.result in
     let a = and_yes (ltb 0 r) (eqb c.byte_at.result 0x0A) c.if-size-byte_at.true in
-    let g = sym (next (goal.at.returns-then-size-byte_at c).After-spell-size (2 * r)) ∙ (sym c.byte_at.ensures ∙ eqb-true _ _ a.1) in
-    let e = frame_there (from (goal.at.returns-then-size-byte_at c).After-spell-size) c.args.bytes.now _ _ (room (goal.at.returns-then-size-byte_at c).After-spell-size) (shown (goal.at.returns-then-size-byte_at c).After-spell-size) (ltb-true _ _ a.0) g in
-    (e.0, e.1, over (goal.at.returns-then-size-byte_at c).After-spell-size)
+    let some = ltb-true _ _ a.0 in
+    let end = sym (next k (2 * r)) ∙ (sym c.byte_at.ensures ∙ eqb-true _ _ a.1) in
+    let there = frame_there (from k) c.args.bytes.now _ _ (room k) (shown k) some end in
+    record { frame = (some, there.0, there.1); spelt = over k }
 
 pub returns : goal.returns
 returns c =
+    let k = (goal.at.returns c).After-spell-size in
     let r = c.spell-size.result in
-    let n = ap (λ (b : ℕ). ltb 0 r && eqb b 0x0A) (sym (c.byte_at.ensures ∙ next (goal.at.returns c).After-spell-size (2 * r))) ∙ c.if-size-byte_at.false in
-    let e = frame_none (from (goal.at.returns c).After-spell-size) c.args.bytes.now _ _ (room (goal.at.returns c).After-spell-size) (shown (goal.at.returns c).After-spell-size) n in
-    (ap length e, e, over (goal.at.returns c).After-spell-size)
+    let n = ap (λ (b : ℕ). ltb 0 r && eqb b 0x0A) (sym (c.byte_at.ensures ∙ next k (2 * r))) ∙ c.if-size-byte_at.false in
+    record { frame = sym (frame_none (from k) c.args.bytes.now _ _ (room k) (shown k) n); spelt = over k }

@@ -1,5 +1,5 @@
 use Rattle.script.specs.Lines.{commanded_on, line_said}
-use Rattle.script.proofs.Steps.{front_holds, own_state, written, line, played_full, played_next, ends, told_full, told_next}
+use Rattle.script.proofs.Steps.{front_holds, none_found, own_state, written, line, played_full, played_next, ends, told_full, told_next}
 use Rattle.lines.proofs.Sofar.{sofar_start, sofar_length, sofar_end, sofar_part, sofar_as}
 use Rattle.told.specs.Told.{after_event}
 use Rattle.told.specs.Laws.{Plays, plays_lent, reply_bytes}
@@ -8,16 +8,17 @@ use Rattle.card.specs.Events.{commanded}
 use Rattle.desk.specs.declared.Desk.{Desk}
 use Rattle.card.specs.declared.Reply.{Reply}
 use Rattle.wire.specs.Bytes.{part}
+use Rattle.lines.specs.Frames.{frame_in}
 use Rattle.wire.proofs.Laws.{length_part}
 use borrow.Author.Rules.{rules}
 use lib.ListN.{length, drop}
 use lib.Seq.{length_front}
 use native.Mathlib.Omega.{arith}
 use Prim.Native.Nat.{ℕ, ◌+◌, ◌-◌, ◌*◌, ◌≤◌, ◌<◌}
-use mathlib.Core.List.{List, ◌++◌}
+use mathlib.Core.List.{List, [], ◌++◌}
 use mathlib.Core.Path.{◌≡◌, ◌∙◌}
 use Rattle.script.proofs.run.Goals as goal
-use Rattle.script.proofs.run.Goals.{After-command-played, After-line_end-e, Then-size-gt0, then-out-n-lt-MOST_ANSWER, else-out-n-lt-MOST_ANSWER}
+use Rattle.script.proofs.run.Goals.{After-command-played, After-line_end-e, In-Some, then-out-n-lt-MOST_ANSWER, else-out-n-lt-MOST_ANSWER}
 
 -- ---- what the places of a turn know
 -- the desk with the card of the last reply
@@ -25,9 +26,11 @@ abbrev here : Desk → Reply → Desk
 here d p = after_event d p.card p.stored
 
 -- the frame at its place is spelt, and there is one
-inside : (k : Then-size-gt0) → let size = k.spell_frame-size.result in
-    (size ≤ 512) × (k.loop-at.at + 2 * size < length k.args.text.now)
-inside k = let l = line _ _ _ _ _ _ _ k.loop-at.invariant.1 _ k.spell_frame-size.ensures.0 k.if-size-gt0.true in (l.4, l.1)
+inside : (k : In-Some) → (k.in-Some.size ≤ 512) × (k.loop-at.at + 2 * k.in-Some.size < length k.args.text.now)
+inside k =
+    let found = k.in-Some.ensures.frame in
+    let l = line _ _ _ _ _ _ _ k.loop-at.invariant.1 _ found.0 found.1 in
+    (l.4, l.1)
 
 -- and the card has replied to it, into the front of its buffer
 module _ (k : After-command-played) where
@@ -37,7 +40,7 @@ module _ (k : After-command-played) where
   buffer_length : length buffer ≡ 512
   buffer_length = length_front k.loop-at.reply k.command-played.new.reply (k.lent_room-lent.result - 0) k.command-played.auto.reply ∙ k.loop-at.invariant.0
 
-  plays : Plays (commanded_on (here k.loop-at.desk k.loop-at.played) (part k.spell_frame-size.new.bytes 0 k.spell_frame-size.result)) buffer k.command-played.result
+  plays : Plays (commanded_on (here k.loop-at.desk k.loop-at.played) (part k.spell_frame.new.bytes 0 k.in-Some.size)) buffer k.command-played.result
   unfolding after_event
   plays =
       plays_lent (commanded k.loop-at.played.card _ k.loop-at.desk.inputs) k.loop-at.reply _ k.loop-at.desk.room _ _ k.lent_room-lent.ensures (omega (arith, k.loop-at.invariant.0)) k.command-played.auto.reply k.command-played.ensures
@@ -48,9 +51,13 @@ module _ (k : After-command-played) where
   replied_most : length replied ≤ 512
   replied_most = let n = (reply_bytes _ _ _ plays).1 in omega (arith, n, length_part buffer 0 k.command-played.result.len (omega (arith, n, buffer_length)))
 
--- there is none: the line goes up to the next LF
+-- there is none
+none : (k : After-line_end-e) → frame_in (drop k.loop-at.at k.args.text.now) ≡ []
+none k = none_found _ _ _ k.in_default.not-Some k.spell_frame.ensures.frame
+
+-- and the line goes up to the next LF
 end : (k : After-line_end-e) → (k.loop-at.at ≤ k.line_end-e.result) × (k.line_end-e.result ≤ length k.args.text.now)
-end k = let l = ends _ _ _ _ _ _ _ k.loop-at.invariant.1 _ k.spell_frame-size.ensures.0 k.if-size-gt0.false _ k.line_end-e.ensures in (l.1, l.2)
+end k = let l = ends _ _ _ _ _ _ _ k.loop-at.invariant.1 (none k) _ k.line_end-e.ensures in (l.1, l.2)
 
 -- ---- the needs
 pub loop-at-init : goal.loop-at-init
@@ -62,7 +69,7 @@ overflow_sub-out c =
     omega (arith, s.room, sofar_length line_said _ _ _ _ _ _ _ s)
 
 pub slice_bounds-command-end : goal.slice_bounds-command-end
-slice_bounds-command-end c = omega (arith, (inside (goal.at.slice_bounds-command-end c).Then-size-gt0).0, front_holds _ _ _ c.spell_frame-size.ensures.0 c.spell_frame-size.ensures.1)
+slice_bounds-command-end c = let found = c.in-Some.ensures.frame in omega (arith, front_holds _ _ _ found.1 found.2)
 
 pub slice_bounds-reply-end : goal.slice_bounds-reply-end
 slice_bounds-reply-end c =
@@ -85,29 +92,29 @@ returns-then-put-n c =
     let v = c.loop-at in
     let a = c.args in
     elim c.if-out-n-lt-MOST_ANSWER.branch [
-      | then-out-n-lt-MOST_ANSWER w ↦ rw w.desk-is (played_full a.desk a.text.now a.out.now (here v.desk v.played) v.at v.n v.out v.invariant.1 _ c.spell_frame-size.ensures.0 c.if-size-gt0.true _ c.spell_frame-size.ensures.1 (buffer p) _ (plays p) _ _ c.put_line-put.ensures c.if-put-n.true)
+      | then-out-n-lt-MOST_ANSWER w ↦ rw w.desk-is (played_full a.desk a.text.now a.out.now (here v.desk v.played) v.at v.n v.out v.invariant.1 _ c.in-Some.ensures.frame.0 c.in-Some.ensures.frame.1 _ c.in-Some.ensures.frame.2 (buffer p) _ (plays p) _ _ c.put_line-put.ensures c.if-put-n.true)
       | else-out-n-lt-MOST_ANSWER w ↦ absurd (written v.out _ v.n _ _ (replied p) c.put_line-put.ensures (replied_most p) w.if-out-n-lt-MOST_ANSWER.false c.if-put-n.true)
     ]
 
 pub overflow_mul-at : goal.overflow_mul-at
-overflow_mul-at c = omega (arith, (inside (goal.at.overflow_mul-at c).Then-size-gt0).0)
+overflow_mul-at c = omega (arith, (inside (goal.at.overflow_mul-at c).In-Some).0)
 
 pub overflow_add-at : goal.overflow_add-at
-overflow_add-at c = record { fits = omega (arith, (inside (goal.at.overflow_add-at c).Then-size-gt0).1, c.well_formed) }
+overflow_add-at c = record { fits = omega (arith, (inside (goal.at.overflow_add-at c).In-Some).1, c.well_formed) }
 
-pub overflow_add-at-then-size-gt0 : goal.overflow_add-at-then-size-gt0
-overflow_add-at-then-size-gt0 c = record { fits = omega (arith, (inside (goal.at.overflow_add-at-then-size-gt0 c).Then-size-gt0).1, c.well_formed) }
+pub overflow_add-at-in-Some : goal.overflow_add-at-in-Some
+overflow_add-at-in-Some c = record { fits = omega (arith, (inside (goal.at.overflow_add-at-in-Some c).In-Some).1, c.well_formed) }
 
-pub loop-at-smaller-then-size-gt0 : goal.loop-at-smaller-then-size-gt0
-loop-at-smaller-then-size-gt0 c = omega (arith, (inside (goal.at.loop-at-smaller-then-size-gt0 c).Then-size-gt0).1)
+pub loop-at-smaller-in-Some : goal.loop-at-smaller-in-Some
+loop-at-smaller-in-Some c = omega (arith, (inside (goal.at.loop-at-smaller-in-Some c).In-Some).1)
 
-pub loop-at-preserved-then-size-gt0 : goal.loop-at-preserved-then-size-gt0
+pub loop-at-preserved-in-Some : goal.loop-at-preserved-in-Some
 unfolding after_event
-loop-at-preserved-then-size-gt0 c =
-    let p = (goal.at.loop-at-preserved-then-size-gt0 c).After-command-played in
+loop-at-preserved-in-Some c =
+    let p = (goal.at.loop-at-preserved-in-Some c).After-command-played in
     let v = c.loop-at in
     let a = c.args in
-    let next = played_next a.desk a.text.now a.out.now (here v.desk v.played) v.at v.n v.out v.invariant.1 _ c.spell_frame-size.ensures.0 c.if-size-gt0.true _ c.spell_frame-size.ensures.1 (buffer p) _ (plays p) _ _ c.put_line-put.ensures c.if-put-n.false in
+    let next = played_next a.desk a.text.now a.out.now (here v.desk v.played) v.at v.n v.out v.invariant.1 _ c.in-Some.ensures.frame.0 c.in-Some.ensures.frame.1 _ c.in-Some.ensures.frame.2 (buffer p) _ (plays p) _ _ c.put_line-put.ensures c.if-put-n.false in
     (buffer_length p, elim c.if-out-n-lt-MOST_ANSWER.branch [ then-out-n-lt-MOST_ANSWER w ↦ rw w.desk-is next | else-out-n-lt-MOST_ANSWER w ↦ rw w.desk-is next ])
 
 pub shape_of-out-then-e-text : goal.shape_of-out-then-e-text
@@ -116,7 +123,7 @@ shape_of-out-then-e-text c = sofar_length line_said _ _ _ _ _ _ _ c.loop-at.inva
 pub returns-then-e-text : goal.returns-then-e-text
 unfolding after_event
 returns-then-e-text c =
-    let l = ends _ _ _ _ _ _ _ c.loop-at.invariant.1 _ c.spell_frame-size.ensures.0 c.if-size-gt0.false _ c.line_end-e.ensures in
+    let l = ends _ _ _ _ _ _ _ c.loop-at.invariant.1 (none (goal.at.returns-then-e-text c).After-line_end-e) _ c.line_end-e.ensures in
     sofar_part line_said _ _ _ _ _ _ _ c.loop-at.invariant.1 _ l.0 c.if-e-text.true
 
 pub slice_bounds-say-count : goal.slice_bounds-say-count
@@ -142,7 +149,7 @@ unfolding after_event
 returns-then-put-n-2 c =
     let v = c.loop-at in
     let a = c.args in
-    told_full a.desk a.text.now a.out.now (here v.desk v.played) v.at v.n v.out v.invariant.1 _ c.spell_frame-size.ensures.0 c.if-size-gt0.false _ c.line_end-e.ensures (omega (arith, (end (goal.at.returns-then-put-n-2 c).After-line_end-e).1, c.if-e-text.false)) _ c.say-told.ensures _ _ c.put_told-put.ensures c.if-put-n-2.true
+    told_full a.desk a.text.now a.out.now (here v.desk v.played) v.at v.n v.out v.invariant.1 (none (goal.at.returns-then-put-n-2 c).After-line_end-e) _ c.line_end-e.ensures (omega (arith, (end (goal.at.returns-then-put-n-2 c).After-line_end-e).1, c.if-e-text.false)) _ c.say-told.ensures _ _ c.put_told-put.ensures c.if-put-n-2.true
 
 pub overflow_add-at-in-loop-at : goal.overflow_add-at-in-loop-at
 overflow_add-at-in-loop-at c = record { fits = omega (arith, (end (goal.at.overflow_add-at-in-loop-at c).After-line_end-e).1, c.if-e-text.false, c.well_formed) }
@@ -157,7 +164,7 @@ unfolding after_event
 loop-at-preserved c =
     let v = c.loop-at in
     let a = c.args in
-    (v.invariant.0, told_next a.desk a.text.now a.out.now (here v.desk v.played) v.at v.n v.out v.invariant.1 _ c.spell_frame-size.ensures.0 c.if-size-gt0.false _ c.line_end-e.ensures (omega (arith, (end (goal.at.loop-at-preserved c).After-line_end-e).1, c.if-e-text.false)) _ c.say-told.ensures _ _ c.put_told-put.ensures c.if-put-n-2.false)
+    (v.invariant.0, told_next a.desk a.text.now a.out.now (here v.desk v.played) v.at v.n v.out v.invariant.1 (none (goal.at.loop-at-preserved c).After-line_end-e) _ c.line_end-e.ensures (omega (arith, (end (goal.at.loop-at-preserved c).After-line_end-e).1, c.if-e-text.false)) _ c.say-told.ensures _ _ c.put_told-put.ensures c.if-put-n-2.false)
 
 pub shape_of-out : goal.shape_of-out
 shape_of-out c = sofar_length line_said _ _ _ _ _ _ _ c.loop-at.invariant.1

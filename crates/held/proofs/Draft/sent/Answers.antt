@@ -4,7 +4,7 @@ use lib.Dec.{eqb}
 use Rattle.held.specs.Held.{sent}
 use mathlib.Core.Path.{sym, ap, ◌∙◌}
 use Rattle.tables.specs.Choice.{picked, passed}
-use Rattle.held.proofs.sent.Goals as goal
+use Rattle.held.proofs.Draft.sent.Goals as goal
 
 pub returns-then-ins : goal.returns-then-ins
 unfolding sent
