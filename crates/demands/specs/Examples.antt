@@ -1,5 +1,5 @@
 -- Computed examples on the rules paper's card: no model that is idle, refuses all, has one reply or stops after one transaction.
-use Rattle.std.specs.Prelude.{ℕ, true, false, List, [], ◌∷◌, ◌≡◌, refl, pos, length, replicate}
+use Rattle.std.specs.Prelude.{ℕ, true, false, List, [], ◌∷◌, ◌≡◌, refl, pos, length, replicate, None}
 use Rattle.tables.specs.Choice.{pick}
 use Rattle.wire.specs.Bytes.{laid, laid_in, outside_of, le3, le4, word}
 use Rattle.datafiles.specs.Files as files
@@ -59,10 +59,10 @@ abbrev pub sends : ℕ → List ℕ → Event
 sends i d = command (frame.framed i d) zeros zeros_handed
 
 abbrev says : List ℕ → Said
-says bytes = record { refusal = 0; bytes = bytes; len = length bytes }
+says bytes = record { refusal = None; bytes = bytes; len = length bytes }
 
 -- the personalisation is accepted
-pub taken : rules.order_refusal program (pos 100) ≡ 0
+pub taken : rules.order_refusal program (pos 100) ≡ None
 unfolding replies rules.first_fault rules.order_refusal
 taken = refl
 

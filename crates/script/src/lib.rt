@@ -49,7 +49,7 @@ pub fn run(mut desk: Desk, text: &[u8], out: &mut [u8]) -> Went
     let first = desk.card;
     let mut played = Reply {
         card: first,
-        refusal: 0,
+        refusal: None,
         stored: desk.stored,
         len: 0,
     };
@@ -101,7 +101,7 @@ pub fn run(mut desk: Desk, text: &[u8], out: &mut [u8]) -> Went
         let next = desk.card;
         played = Reply {
             card: next,
-            refusal: 0,
+            refusal: None,
             stored: desk.stored,
             len: 0,
         };
