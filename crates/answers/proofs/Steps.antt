@@ -1,5 +1,7 @@
 -- Two places a byte, tested without doubling; and an answer with its LF.
 use Prim.Native.Nat.{ℕ, ◌+◌, ◌*◌, ◌-◌, ◌/◌, ◌≤◌, ◌<◌}
+use Rattle.std.specs.Prelude.{Option}
+use Rattle.refusals.specs.declared.Refusal.{Refusal}
 use mathlib.Core.Bool.{Bool, true, false}
 use mathlib.Core.List.{List, [], ◌∷◌, ◌++◌}
 use mathlib.Core.Path.{◌≡◌, refl, sym, ap, ◌∙◌}
@@ -22,7 +24,7 @@ half len room = sym (by (ltb len (room - room / 2)) refl)
     by true e = let h = ltb-true len (room - room / 2) e in lt-ltb (2 * len) room (omega arith)
     by false e = let h = ltb-false len (room - room / 2) e in le-ltb (2 * len) room (omega arith)
 
-module _ (refusal : ℕ) (bytes b : List ℕ) (at : ℕ) where
+module _ (refusal : Option Refusal) (bytes b : List ℕ) (at : ℕ) where
   -- there is no room for the line
   pub line_short : length b - at ≤ reply_size refusal (length bytes) → Adds (in_room (length b - at) (reply_line refusal bytes)) b at b at
   line_short h = rw (room_no (length b - at) (reply_line refusal bytes) (omega (arith, length_line refusal bytes))) (adds_none b at)

@@ -1,10 +1,10 @@
 -- Laws of the card's parts and events, as the code goes through them.
-use Rattle.std.specs.Prelude.{ℕ, ◌+◌, ◌≤◌, Bool, not, ◌≡◌, eqb, ℤ, Option}
+use Rattle.std.specs.Prelude.{ℕ, ◌+◌, ◌≤◌, Bool, not, ◌≡◌, eqb, ℤ, Option, Some, None, is_none}
 use Rattle.std.proofs.Math.Bool.{true, false}
 use mathlib.Core.List.{List, [], ◌++◌}
 use Rattle.std.proofs.Math.Path.{refl, sym, ap}
 use Rattle.std.proofs.Common.{◌∙◌, ltb-false, le-ltb, eq-eqb, ne_eqb, arith}
-use Rattle.std.proofs.lemmas.Bool.{eqb-false}
+use Rattle.std.proofs.lemmas.Bool.{false≢true}
 use Rattle.std.proofs.Math.Dec.{ltb}
 use Rattle.std.proofs.Math.ListN.{length}
 use Rattle.tables.specs.Choice.{pick, picked, passed}
@@ -14,6 +14,8 @@ use Rattle.logfile.specs.declared.Log.{Log}
 use Rattle.logfile.specs.View as log
 use Rattle.logfile.proofs.Laws as logfile
 use Rattle.logfile.proofs.FitLaws.{fit_view}
+use Rattle.refusals.specs.declared.Refusal.{Refusal}
+use Rattle.refusals.specs.declared.Refusal.TheVariants.{UnknownKey, ShortBuffer, BrokenRule}
 use Rattle.purse.specs.declared.Purse.{Purse}
 use Rattle.roles.specs.declared.Role.{Role}
 use Rattle.datafiles.specs.declared.Files.{Files}
@@ -60,22 +62,28 @@ log_unbroken c e = (parted c.settings c.purse c.log c.channel.stage c.channel.ch
 
 -- ---- replies
 
-pub bench_reply : (c : Card) (n : ℕ) → reply c n 0 ≡ reply_of (bench c n)
+some_none : {r : Refusal} → Some r ≡ None → ⊥
+some_none e = false≢true (ap is_none e)
+
+pub bench_reply : (c : Card) (n : Option Refusal) → reply c n 0 ≡ reply_of (bench c n)
 unfolding bench reply_of
 bench_reply c n = refl
 
-pub bench_answers : (c : Card) (n : ℕ) (b : List ℕ) → Answered (bench c n) b b (reply c n 0)
+pub bench_answers : (c : Card) (n : Option Refusal) (b : List ℕ) → Answered (bench c n) b b (reply c n 0)
 unfolding bench reply_of
 bench_answers c n b = (refl, laid_none b)
+
+pub answered_by : (o : Outcome) (b b₂ : List ℕ) {r r' : Reply} → r ≡ r' → Answered o b b₂ r' → Answered o b b₂ r
+answered_by o b b₂ e a = (e ∙ a.0, a.1)
 
 pub answered_as : (o o' : Outcome) (b b₂ : List ℕ) (r : Reply) → o ≡ o' → Answered o b b₂ r → Answered o' b b₂ r
 answered_as o o' b b₂ r e a = (cc, cc)
 
 -- the card k with the state s, with t slot bytes stored, and a buffer that shows x
 pub shows_answers : (c : Card) {k : Card} {t : ℕ} (s : State) (x b : List ℕ) {b₂ : List ℕ} {n : ℕ} → k ≡ put c t s → Shows x b b₂ n
-    → Answered (laid_into c (record { state = s; stored = t; out = x })) b b₂ (reply_storing t k 0 n)
+    → Answered (laid_into c (record { state = s; stored = t; out = x })) b b₂ (reply_storing t k None n)
 unfolding laid_into reply_of
-shows_answers c {t = t} s x b ek (e, l) = ((λ i. reply_storing t (ek i) 0 (l i)), e)
+shows_answers c {t = t} s x b ek (e, l) = ((λ i. reply_storing t (ek i) None (l i)), e)
 
 -- what an accepted command lays at the front is its data, with room for the MAC and the status
 pub accepted_shows : (c : Card) (m : Bool) (i : ℕ) (r : Role) (d b b₁ : List ℕ) (n : ℕ) → Granted (view c).core m i r d → broken c ≡ false → reply_room ≤ length b
@@ -133,7 +141,7 @@ write_stores_none c e = rw e refl
 -- a part of an authentication: the n bytes x of its reply, and its status w behind them
 pub part_answers : (c : Card) {k : Card} (u : Inputs) (i : ℕ) (r : Role) (d x b : List ℕ) {b₁ b₂ : List ℕ} {z : ℕ} (n w : ℕ) → k ≡ put c 0 (changed (view c) u i r d) → 0 ≡ stored_after i (view c).core.journal
     → x ≡ shown (view c) u i r d → w ≡ accepted_status i → length x ≡ n → n + 2 ≤ length b → b₁ ≡ laid_in b 0 x → b₂ ≡ laid_in b₁ n (word w) → z ≡ n + 2
-    → Answered (laid_into c (accepted_plain false (view c) u i r d)) b b₂ (reply k 0 z)
+    → Answered (laid_into c (accepted_plain false (view c) u i r d)) b b₂ (reply k None z)
 part_answers c u i r d x b {b₁} {z = z} n w ek et ex ew lx room e₁ e₂ er =
     let s = shows_whole x b b₁ n lx (omega arith) e₁ in
     let lw = length_word w in
@@ -146,7 +154,7 @@ part_answers c u i r d x b {b₁} {z = z} n w ek et ex ew lx room e₁ e₂ er =
 -- a base command that shows something
 pub shown_answers : (c : Card) {k : Card} (m : Bool) (u : Inputs) (i : ℕ) (r : Role) (d b : List ℕ) {b₁ b₂ : List ℕ} {n l : ℕ} → shows i ≡ true
     → k ≡ on_channel c (counted c.channel) → Shows (base_shown (view c) i r d) b b₁ n → Sealed (counted c.channel) m n b₁ b₂ l
-    → Answered (laid_into c (accepted_plain m (view c) u i r d)) b b₂ (reply k 0 l)
+    → Answered (laid_into c (accepted_plain m (view c) u i r d)) b b₂ (reply k None l)
 unfolding view
 shown_answers c m u i r d b t ek s z =
     let h = shows_changes_nothing (view c) r d i t in
@@ -155,26 +163,26 @@ shown_answers c m u i r d b t ek s z =
 
 -- ---- an event with a reply buffer, which plays p where there is no bench refusal
 
-module _ (c : Card) (room : ℕ) {n : ℕ} (e : n ≡ bench_refusal (broken c) room) where
-  pub refused_bench : (p : Played) → (n ≡ 0 → ⊥) → bench c n ≡ benched c room p
-  refused_bench p h = rw e (sym (passed _ _ (ne_eqb _ _ (λ q. h (e ∙ q)))))
+module _ (c : Card) (room : ℕ) where
+  pub refused_bench : (p : Played) {r : Refusal} → Some r ≡ bench_refusal (broken c) room → bench c (Some r) ≡ benched c room p
+  refused_bench p e = rw e (sym (passed _ _ (ap is_none (sym e))))
 
-  pub no_bench : n ≡ 0 → (reply_room ≤ room) × (broken c ≡ false)
+  pub no_bench : None ≡ bench_refusal (broken c) room → (reply_room ≤ room) × (broken c ≡ false)
   unfolding bench_refusal
-  no_bench h = by (ltb room reply_room) refl (broken c) refl (sym e ∙ h)
+  no_bench e = by (ltb room reply_room) refl (broken c) refl (sym e)
     where
-      by : (s : Bool) → ltb room reply_room ≡ s → (b : Bool) → broken c ≡ b → pick {A = ℕ} s 5 (pick b 6 0) ≡ 0 → (reply_room ≤ room) × (broken c ≡ false)
-      by true es b eb q = unfold pick in absurd (eqb-false 5 0 refl q)
-      by false es true eb q = unfold pick in absurd (eqb-false 6 0 refl q)
+      by : (s : Bool) → ltb room reply_room ≡ s → (b : Bool) → broken c ≡ b → pick s (Some ShortBuffer) (pick b (Some BrokenRule) None) ≡ None → (reply_room ≤ room) × (broken c ≡ false)
+      by true es b eb q = unfold pick in absurd (some_none q)
+      by false es true eb q = unfold pick in absurd (some_none q)
       by false es false eb q = (ltb-false _ _ es, eb)
 
 module _ (c : Card) (room : ℕ) (p : Played) (h : reply_room ≤ room) (b : broken c ≡ false) where
-  unrefused : bench_refusal (broken c) room ≡ 0
+  unrefused : bench_refusal (broken c) room ≡ None
   unfolding bench_refusal
   unrefused = passed _ _ (le-ltb _ _ h) ∙ passed _ _ b
 
   pub bench_plays : laid_into c p ≡ benched c room p
-  bench_plays = sym (picked _ _ (eq-eqb _ _ unrefused))
+  bench_plays = sym (picked _ _ (ap is_none unrefused))
 
 -- refused or not by its status
 module _ (c : Card) (s : ℕ) (p : Played) where
@@ -186,7 +194,7 @@ module _ (c : Card) (s : ℕ) (p : Played) where
 
 -- a refusal, laid into the card k, with room for a reply
 pub refused_answers : (c : Card) {k : Card} (s : ℕ) (b : List ℕ) {b₂ : List ℕ} {n : ℕ} → reply_room ≤ length b → k ≡ put c 0 (ended (view c))
-    → b₂ ≡ laid_in b 0 (word s) → n ≡ 0 + 2 → Answered (laid_into c (refused (view c) s)) b b₂ (reply k 0 n)
+    → b₂ ≡ laid_in b 0 (word s) → n ≡ 0 + 2 → Answered (laid_into c (refused (view c) s)) b b₂ (reply k None n)
 unfolding refused
 refused_answers c s b h ek e q = shows_answers c (ended (view c)) (word s) b ek ((shows_whole (word s) b _ 2 (length_word s) (omega arith) e).0, q ∙ sym (length_word s))
 
@@ -201,9 +209,9 @@ module _ (c : Card) (f : List ℕ) (u : Inputs) where
   unfolding played
   plays_accepted e = judged_accepted c _ _ e
 
-  pub command_bench : (room : ℕ) {n : ℕ} → n ≡ bench_refusal (broken c) room → (n ≡ 0 → ⊥) → bench c n ≡ commanded c f u room
+  pub command_bench : (room : ℕ) {r : Refusal} → Some r ≡ bench_refusal (broken c) room → bench c (Some r) ≡ commanded c f u room
   unfolding commanded
-  command_bench room e n = refused_bench c room e _ n
+  command_bench room e = refused_bench c room _ e
 
   pub command_plays : (room : ℕ) → reply_room ≤ room → broken c ≡ false → laid_into c (played (view c) u f) ≡ commanded c f u room
   unfolding commanded
@@ -248,7 +256,7 @@ module _ (c : Card) (f : List ℕ) (u : Inputs) where
       -- a base command that shows nothing; g is its channel after, and t the slot bytes that it stored
       pub command_quiet : {b₂ : List ℕ} {k : Card} {n t : ℕ} {g : Channel} → eqb i authenticate_first ≡ false → eqb i authenticate_second ≡ false → shows i ≡ false
           → t ≡ stored_after i (view c).core.journal → k ≡ put c t (changed (view c) u i r d) → g ≡ counted c.channel → Sealed g m 0 b b₂ n
-          → Answered (commanded c f u (length b)) b b₂ (reply_storing t k 0 n)
+          → Answered (commanded c f u (length b)) b b₂ (reply_storing t k None n)
       unfolding view
       command_quiet n₁ n₂ s et ek eg z₀ =
           let z : Sealed (counted c.channel) m 0 b _ _ = rw eg at z₀ in
@@ -259,13 +267,13 @@ module _ (c : Card) (f : List ℕ) (u : Inputs) where
 
 -- ---- a chain
 
-pub opening_bench : (c : Card) (f : List ℕ) (room : ℕ) {n : ℕ} → n ≡ bench_refusal (broken c) room → (n ≡ 0 → ⊥) → bench c n ≡ chain_opened c f room
+pub opening_bench : (c : Card) (f : List ℕ) (room : ℕ) {r : Refusal} → Some r ≡ bench_refusal (broken c) room → bench c (Some r) ≡ chain_opened c f room
 unfolding chain_opened
-opening_bench c f room e n = refused_bench c room e _ n
+opening_bench c f room e = refused_bench c room _ e
 
-pub bytes_bench : (c : Card) (x : List ℕ) (room : ℕ) {n : ℕ} → n ≡ bench_refusal (broken c) room → (n ≡ 0 → ⊥) → bench c n ≡ bytes_sent c x room
+pub bytes_bench : (c : Card) (x : List ℕ) (room : ℕ) {r : Refusal} → Some r ≡ bench_refusal (broken c) room → bench c (Some r) ≡ bytes_sent c x room
 unfolding bytes_sent
-bytes_bench c x room e n = refused_bench c room e _ n
+bytes_bench c x room e = refused_bench c room _ e
 
 -- an opening f; x is its data field, r the role of the file that it names, and g the channel after it
 module _ (c : Card) (f : List ℕ) (b : List ℕ) (h : reply_room ≤ length b) (w : broken c ≡ false) where
@@ -276,7 +284,7 @@ module _ (c : Card) (f : List ℕ) (b : List ℕ) (h : reply_room ≤ length b) 
 
   pub opening_taken : {x : List ℕ} {r : Role} {k : Card} {n : Chain} {g : Channel} → opening_status (view c).core f ≡ ok → r ≡ role_in (view c).core.settings (data_of f)
       → x ≡ data_of f → n ≡ announced r x → g ≡ chained c.channel n
-      → k ≡ on_channel c g → Answered (chain_opened c f (length b)) b b (reply k 0 0)
+      → k ≡ on_channel c g → Answered (chain_opened c f (length b)) b b (reply k None 0)
   unfolding chain_opened opening_played opening
   opening_taken s er ex en eg ek =
       let q = on_channel_lem c (opening (view c) (data_of f)).state (chained c.channel (announced (role_in (view c).core.settings (data_of f)) (data_of f))) (unfold opening view in refl) in
@@ -308,7 +316,7 @@ closes_not b t = rw t (shows_none b)
 pub delivers : (c : Card) (x b : List ℕ) {b₂ : List ℕ} {n at : ℕ} {f : Files} {g : Channel} {last : Bool} → at ≡ next_place c.channel.chain
     → f ≡ files.written c.files c.channel.chain.file at x → g ≡ advanced c.channel (length x) → last ≡ completes c.channel.chain (length x)
     → Shows (pick last (word ok) []) b b₂ n
-    → Answered (laid_into c (delivered (view c) x)) b b₂ (reply (record { settings = c.settings; keys = c.keys; files = f; purse = c.purse; log = c.log; channel = g }) 0 n)
+    → Answered (laid_into c (delivered (view c) x)) b b₂ (reply (record { settings = c.settings; keys = c.keys; files = f; purse = c.purse; log = c.log; channel = g }) None n)
 unfolding delivered
 delivers c x b ea ef eg el s =
     shows_answers c (delivered (view c) x).state _ b (unfold put delivered view in rw (ef, ea, eg, logfile.put_view c.log) refl) (unfold view in rw el at s)
@@ -316,40 +324,38 @@ delivers c x b ea ef eg el s =
 -- ---- the other events
 
 module _ (c : Card) (k : Option ℕ) where
-  pub session_unknown : not (session_sound k) ≡ true → reply c 4 0 ≡ reply_of (session_changed c k)
+  pub session_unknown : not (session_sound k) ≡ true → reply c (Some UnknownKey) 0 ≡ reply_of (session_changed c k)
   unfolding session_changed
-  session_unknown e = bench_reply c 4 ∙ ap reply_of (sym (picked _ _ e))
+  session_unknown e = bench_reply c (Some UnknownKey) ∙ ap reply_of (sym (picked _ _ e))
 
-  pub session_broken : not (session_sound k) ≡ false → broken c ≡ true → reply c 6 0 ≡ reply_of (session_changed c k)
+  pub session_broken : not (session_sound k) ≡ false → broken c ≡ true → reply c (Some BrokenRule) 0 ≡ reply_of (session_changed c k)
   unfolding session_changed
-  session_broken e b = bench_reply c 6 ∙ ap reply_of (sym (passed _ _ e ∙ picked _ _ b))
+  session_broken e b = bench_reply c (Some BrokenRule) ∙ ap reply_of (sym (passed _ _ e ∙ picked _ _ b))
 
   pub session_changes : not (session_sound k) ≡ false → broken c ≡ false
-      → {n : Card} → n ≡ on_channel c (bare (stage_of k)) → reply n 0 0 ≡ reply_of (session_changed c k)
+      → {n : Card} → n ≡ on_channel c (bare (stage_of k)) → reply n None 0 ≡ reply_of (session_changed c k)
   unfolding session_changed
-  session_changes e b q = ap (λ (x : Card). reply x 0 0) (q ∙ on_channel_lem c (with_session (view c) k) (bare (stage_of k)) (unfold with_session view in refl)) ∙ silent ∙ ap reply_of (sym (passed _ _ e ∙ passed _ _ b))
+  session_changes e b q = ap (λ (x : Card). reply x None 0) (q ∙ on_channel_lem c (with_session (view c) k) (bare (stage_of k)) (unfold with_session view in refl)) ∙ silent ∙ ap reply_of (sym (passed _ _ e ∙ passed _ _ b))
     where
-      silent : reply (put c 0 (with_session (view c) k)) 0 0 ≡ reply_of (laid_into c (record { state = with_session (view c) k; stored = 0; out = [] }))
+      silent : reply (put c 0 (with_session (view c) k)) None 0 ≡ reply_of (laid_into c (record { state = with_session (view c) k; stored = 0; out = [] }))
       silent = unfold reply_of laid_into in refl
 
-pub power_broken : (c : Card) → broken c ≡ true → reply c 6 0 ≡ reply_of (powered_up c)
+pub power_broken : (c : Card) → broken c ≡ true → reply c (Some BrokenRule) 0 ≡ reply_of (powered_up c)
 unfolding powered_up
-power_broken c b = bench_reply c 6 ∙ ap reply_of (sym (picked _ _ b))
+power_broken c b = bench_reply c (Some BrokenRule) ∙ ap reply_of (sym (picked _ _ b))
 
-pub power_ends : (c k : Card) → k ≡ put c 0 (ended (view c)) → broken c ≡ false → reply k 0 0 ≡ reply_of (powered_up c)
+pub power_ends : (c k : Card) → k ≡ put c 0 (ended (view c)) → broken c ≡ false → reply k None 0 ≡ reply_of (powered_up c)
 unfolding powered_up
 power_ends c k e b = made ∙ ap reply_of (sym (passed _ _ b))
   where
-    made : reply k 0 0 ≡ reply_of (laid_into c (record { state = ended (view c); stored = 0; out = [] }))
-    made = unfold reply_of laid_into in ap (λ (x : Card). reply x 0 0) e
+    made : reply k None 0 ≡ reply_of (laid_into c (record { state = ended (view c); stored = 0; out = [] }))
+    made = unfold reply_of laid_into in ap (λ (x : Card). reply x None 0) e
 
-module _ (s : Settings) (ks : Keys) (v : ℤ) (n : ℕ) (c : Card) (e : n ≡ order_refusal s v) where
-  pub order_refused : (n ≡ 0 → ⊥) → c ≡ blank → reply c n 0 ≡ reply_of (personalised s ks v)
+module _ (s : Settings) (ks : Keys) (v : ℤ) (c : Card) where
+  pub order_refused : {r : Refusal} → Some r ≡ order_refusal s v → c ≡ blank → reply c (Some r) 0 ≡ reply_of (personalised s ks v)
   unfolding personalised
-  order_refused h k = rw (k, e) (bench_reply blank (order_refusal s v) ∙ ap (λ (x : Card). reply_of (bench x (order_refusal s v))) (sym (passed _ _ (ne_eqb _ _ (λ q. h (e ∙ q))))))
+  order_refused e k = rw (k, e) (bench_reply blank (order_refusal s v) ∙ ap (λ (x : Card). reply_of (bench x (order_refusal s v))) (sym (passed _ _ (ap is_none (sym e)))))
 
-  pub order_taken : n ≡ 0 → c ≡ issued s ks v → reply c 0 0 ≡ reply_of (personalised s ks v)
+  pub order_taken : None ≡ order_refusal s v → c ≡ issued s ks v → reply c None 0 ≡ reply_of (personalised s ks v)
   unfolding personalised pick
-  order_taken h k =
-      let z : order_refusal s v ≡ 0 = sym e ∙ h in
-      rw (k, z) (bench_reply (issued s ks v) 0)
+  order_taken e k = rw (k, sym e) (bench_reply (issued s ks v) None)

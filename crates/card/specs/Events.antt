@@ -1,9 +1,11 @@
 -- The events: personalisation, a command, the opening of a chain, a frame of file bytes, a session change, a power-up.
-use Rattle.std.specs.Prelude.{ℕ, ◌-◌, List, [], ◌++◌, Bool, not, false, ltb, eqb, ℤ, pos, length, Option}
+use Rattle.std.specs.Prelude.{ℕ, ◌-◌, List, [], ◌++◌, Bool, not, false, ltb, eqb, ℤ, pos, length, Option, Some, None, is_none}
 use Rattle.tables.specs.Choice.{pick}
 use Rattle.wire.specs.Bytes.{word}
 use Rattle.roles.specs.declared.Role.{Role}
 use Rattle.datafiles.specs.Files as files
+use Rattle.refusals.specs.declared.Refusal.{Refusal}
+use Rattle.refusals.specs.declared.Refusal.TheVariants.{UnknownKey, ShortBuffer, BrokenRule}
 use Rattle.purse.specs.Purse as purse
 use Rattle.logfile.specs.Journal as journal
 use Rattle.logfile.specs.View as log
@@ -116,7 +118,7 @@ played s u f = played_by (status_of s.core f) s u f
 
 -- the card that the played state is laid into
 unfoldable pub laid_into : Card → Played → Outcome
-laid_into c p = record { card = put c p.stored p.state; refusal = 0; stored = p.stored; out = p.out }
+laid_into c p = record { card = put c p.stored p.state; refusal = None; stored = p.stored; out = p.out }
 
 -- the room that every reply has in its buffer
 abbrev pub reply_room : ℕ
@@ -126,13 +128,13 @@ reply_room = 258
 abbrev pub data_room : ℕ
 data_room = reply_room - 2
 
--- the bench refusal of an event with a reply buffer of room bytes, or 0
-unfoldable pub bench_refusal : Bool → ℕ → ℕ
-bench_refusal broken room = pick (ltb room reply_room) 5 (pick broken 6 0)
+-- the bench refusal of an event with a reply buffer of room bytes, if any
+unfoldable pub bench_refusal : Bool → ℕ → Option Refusal
+bench_refusal broken room = pick (ltb room reply_room) (Some ShortBuffer) (pick broken (Some BrokenRule) None)
 
 -- what is played where there is none
 abbrev pub benched : Card → ℕ → Played → Outcome
-benched c room p = pick (eqb (bench_refusal (broken c) room) 0) (laid_into c p) (bench c (bench_refusal (broken c) room))
+benched c room p = pick (is_none (bench_refusal (broken c) room)) (laid_into c p) (bench c (bench_refusal (broken c) room))
 
 -- the frame f, the bench's inputs u, and a reply buffer of room bytes
 unfoldable pub commanded : Card → List ℕ → Inputs → ℕ → Outcome
@@ -193,14 +195,14 @@ with_session s k = with_channel s (bare (stage_of k))
 
 unfoldable pub session_changed : Card → Option ℕ → Outcome
 session_changed c k =
-    pick (not (session_sound k)) (bench c 4)
-    (pick (broken c) (bench c 6)
+    pick (not (session_sound k)) (bench c (Some UnknownKey))
+    (pick (broken c) (bench c (Some BrokenRule))
     (laid_into c (record { state = with_session (view c) k; stored = 0; out = [] })))
 
 -- ---- a power-up
 
 unfoldable pub powered_up : Card → Outcome
-powered_up c = pick (broken c) (bench c 6) (laid_into c (record { state = ended (view c); stored = 0; out = [] }))
+powered_up c = pick (broken c) (bench c (Some BrokenRule)) (laid_into c (record { state = ended (view c); stored = 0; out = [] }))
 
 -- ---- personalisation
 
@@ -212,6 +214,6 @@ issued s ks v = record { settings = s; keys = ks; files = files.zeros; purse = p
 unfoldable pub blank : Card
 blank = issued (alike 0xFFFF (record { lower = pos 0; upper = pos 0 }) false) keys.zeros (pos 0)
 
--- the new card, or the blank one beside the refusal's number
+-- the new card, or the blank one beside the refusal
 unfoldable pub personalised : Settings → Keys → ℤ → Outcome
-personalised s ks v = bench (pick (eqb (order_refusal s v) 0) (issued s ks v) blank) (order_refusal s v)
+personalised s ks v = bench (pick (is_none (order_refusal s v)) (issued s ks v) blank) (order_refusal s v)

@@ -1,12 +1,13 @@
--- What an event answers: the card, the bench refusal's number or 0, the slot bytes of the log that it stored, and the bytes of the reply.
-use Rattle.std.specs.Prelude.{ℕ, ◌≡◌, List, [], length}
+-- What an event answers: the card, the bench refusal, if any, the slot bytes of the log that it stored, and the bytes of the reply.
+use Rattle.std.specs.Prelude.{ℕ, ◌≡◌, List, [], Option, length}
 use Rattle.wire.specs.Bytes.{laid}
+use Rattle.refusals.specs.declared.Refusal.{Refusal}
 use Rattle.card.specs.declared.Card.{Card}
 use Rattle.card.specs.declared.Reply.{Reply}
 
 pub record Outcome : Type 0 where
   pub card : Card
-  pub refusal : ℕ
+  pub refusal : Option Refusal
   pub stored : ℕ
   pub out : List ℕ
 
@@ -19,7 +20,7 @@ abbrev pub Answered : Outcome → List ℕ → List ℕ → Reply → Type 0
 Answered o before after r = (r ≡ reply_of o) × (after ≡ laid before 0 o.out)
 
 -- a bench refusal returns the input card unchanged, writes and stores nothing, and gives length 0
-unfoldable pub bench : Card → ℕ → Outcome
+unfoldable pub bench : Card → Option Refusal → Outcome
 bench c n = record { card = c; refusal = n; stored = 0; out = [] }
 
 -- an outcome leaves one reply and one buffer

@@ -19,48 +19,32 @@ impl Card {
         ensures { Answered (laid_into self (refused (view self) (word_of status))) reply.old reply.new result }
     {
         let len = Card::say(status.word(), reply);
-        let card = self.ended();
-        Reply {
-            card,
-            refusal: 0,
-            stored: 0,
-            len,
-        }
+        Reply::sent(self.ended(), len)
     }
 
     // The opening of a chain: a WriteData without its bytes and its MAC.
     pub fn open_chain(self, frame: &[u8], reply: &mut [u8]) -> Reply
         ensures { Answered (chain_opened self frame.now (length reply.old)) reply.old reply.new result }
     {
-        let settings = self.settings;
-        let keys = self.keys;
-        let purse = self.purse;
-        let log = self.log;
-        let channel = self.channel;
-        let stage = channel.stage;
-        let chain = channel.chain;
-        let bench = Card::bench_refusal(settings, purse, log, stage, chain, reply.len());
-        if bench != 0 {
-            return Reply {
-                card: self,
-                refusal: bench,
-                stored: 0,
-                len: 0,
-            };
+        if let Some(refusal) = self.bench_refusal(reply.len()) {
+            return Reply::refused(self, refusal);
         }
-        let admitted = match checks::check(true, settings, keys, purse, log, channel, frame) {
+        let channel = self.channel;
+        let checked = checks::check(
+            true,
+            self.settings,
+            self.keys,
+            self.purse,
+            self.log,
+            channel,
+            frame,
+        );
+        let admitted = match checked {
             Ok(admitted) => admitted,
             Err(status) => return self.refuse(status, reply),
         };
-        let role = admitted.role;
-        let next = channel.chained(Chain::announced(role, frames::data(frame)));
-        let card = self.on_channel(next);
-        Reply {
-            card,
-            refusal: 0,
-            stored: 0,
-            len: 0,
-        }
+        let next = channel.chained(Chain::announced(admitted.role, frames::data(frame)));
+        Reply::sent(self.on_channel(next), 0)
     }
 
     // Lays 9100 behind the last frame of a chain, nothing behind another, and answers the reply's length.
@@ -79,53 +63,27 @@ impl Card {
         requires { reply_room ≤ length reply.old }
         ensures { Answered (laid_into self (delivered (view self) bytes.now)) reply.old reply.new result }
     {
-        let settings = self.settings;
-        let keys = self.keys;
-        let files = self.files;
-        let purse = self.purse;
-        let log = self.log;
         let channel = self.channel;
         let chain = channel.chain;
-        let file = chain.file;
         let n = bytes.len();
         let last = chain.left as usize <= n;
         let len = Card::close_last(last, reply);
         let card = Card {
-            settings,
-            keys,
-            files: files.write(file, chain.next_place(), bytes),
-            purse,
-            log,
+            files: self.files.write(chain.file, chain.next_place(), bytes),
             channel: channel.advanced(n),
+            ..self
         };
-        Reply {
-            card,
-            refusal: 0,
-            stored: 0,
-            len,
-        }
+        Reply::sent(card, len)
     }
 
     // A frame of file bytes.
     pub fn file_frame(self, bytes: &[u8], reply: &mut [u8]) -> Reply
         ensures { Answered (bytes_sent self bytes.now (length reply.old)) reply.old reply.new result }
     {
-        let settings = self.settings;
-        let purse = self.purse;
-        let log = self.log;
-        let channel = self.channel;
-        let stage = channel.stage;
-        let chain = channel.chain;
-        let bench = Card::bench_refusal(settings, purse, log, stage, chain, reply.len());
-        if bench != 0 {
-            return Reply {
-                card: self,
-                refusal: bench,
-                stored: 0,
-                len: 0,
-            };
+        if let Some(refusal) = self.bench_refusal(reply.len()) {
+            return Reply::refused(self, refusal);
         }
-        match checks::check_bytes(chain, bytes) {
+        match checks::check_bytes(self.channel.chain, bytes) {
             Ok(_) => self.deliver(bytes, reply),
             Err(status) => self.refuse(status, reply),
         }

@@ -57,17 +57,10 @@ impl Card {
         requires { reply_room ≤ length reply.old }
         ensures { Answered (laid_into self (accepted_plain false (view self) inputs authenticate_first role d.now)) reply.old reply.new result }
     {
-        let keys = self.keys;
-        let bytes = authentication::show_first(keys, inputs, d);
+        let bytes = authentication::show_first(self.keys, inputs, d);
         wire::lay(reply, 0, &bytes);
         let len = Card::close(Card::SECOND_PART, 16, reply);
-        let card = self.on_channel(authentication::begin(inputs, d));
-        Reply {
-            card,
-            refusal: 0,
-            stored: 0,
-            len,
-        }
+        Reply::sent(self.on_channel(authentication::begin(inputs, d)), len)
     }
 
     // An accepted second part.
@@ -80,13 +73,7 @@ impl Card {
         let bytes = authentication::show_second(keys, channel, d);
         wire::lay(reply, 0, &bytes);
         let len = Card::close(Card::OK, 32, reply);
-        let card = self.on_channel(authentication::open(keys, channel, d));
-        Reply {
-            card,
-            refusal: 0,
-            stored: 0,
-            len,
-        }
+        Reply::sent(self.on_channel(authentication::open(keys, channel, d)), len)
     }
 
     // An accepted command that shows something.
@@ -102,21 +89,20 @@ impl Card {
         requires { (shows ins ≡ true) × Granted (view self).core maced ins role d.now × (broken self ≡ false) × (reply_room ≤ length reply.old) }
         ensures { Answered (laid_into self (accepted_plain maced (view self) inputs ins role d.now)) reply.old reply.new result }
     {
-        let settings = self.settings;
-        let files = self.files;
-        let purse = self.purse;
-        let log = self.log;
-        let channel = self.channel;
-        let next = channel.counted();
+        let next = self.channel.counted();
         let card = self.on_channel(next);
-        let n = replies::show(settings, files, purse, log, ins, role, d, reply);
+        let n = replies::show(
+            self.settings,
+            self.files,
+            self.purse,
+            self.log,
+            ins,
+            role,
+            d,
+            reply,
+        );
         let len = Card::seal(next, maced, n, reply);
-        Reply {
-            card,
-            refusal: 0,
-            stored: 0,
-            len,
-        }
+        Reply::sent(card, len)
     }
 
     // A command, with what the bench hands in and a buffer for its reply. Each way out makes its card once: the files are long,
@@ -124,23 +110,20 @@ impl Card {
     pub fn command(self, frame: &[u8], inputs: Inputs, reply: &mut [u8]) -> Reply
         ensures { Answered (commanded self frame.now inputs (length reply.old)) reply.old reply.new result }
     {
-        let settings = self.settings;
-        let keys = self.keys;
-        let purse = self.purse;
-        let log = self.log;
-        let channel = self.channel;
-        let stage = channel.stage;
-        let chain = channel.chain;
-        let bench = Card::bench_refusal(settings, purse, log, stage, chain, reply.len());
-        if bench != 0 {
-            return Reply {
-                card: self,
-                refusal: bench,
-                stored: 0,
-                len: 0,
-            };
+        if let Some(refusal) = self.bench_refusal(reply.len()) {
+            return Reply::refused(self, refusal);
         }
-        let admitted = match checks::check(false, settings, keys, purse, log, channel, frame) {
+        let channel = self.channel;
+        let checked = checks::check(
+            false,
+            self.settings,
+            self.keys,
+            self.purse,
+            self.log,
+            channel,
+            frame,
+        );
+        let admitted = match checked {
             Ok(admitted) => admitted,
             Err(status) => return self.refuse(status, reply),
         };
@@ -165,36 +148,24 @@ impl Card {
         } else {
             len = Card::close(Card::OK, 0, reply);
         }
-        let files = self.files;
         if ins == table::WRITE_DATA {
             let card = Card {
-                settings,
-                keys,
-                files: effects::next_files(files, table::WRITE_DATA, role, d),
-                purse,
-                log,
+                files: effects::next_files(self.files, table::WRITE_DATA, role, d),
                 channel: next,
+                ..self
             };
-            return Reply {
-                card,
-                refusal: 0,
-                stored: 0,
-                len,
-            };
+            return Reply::sent(card, len);
         }
-        let after = effects::next_log(log, ins, d);
-        let log = after.log;
+        let after = effects::next_log(self.log, ins, d);
         let card = Card {
-            settings,
-            keys,
-            files,
-            purse: effects::next_purse(purse, settings.limits, ins, d),
-            log,
+            purse: effects::next_purse(self.purse, self.settings.limits, ins, d),
+            log: after.log,
             channel: next,
+            ..self
         };
         Reply {
             card,
-            refusal: 0,
+            refusal: None,
             stored: after.stored,
             len,
         }

@@ -5,20 +5,20 @@ mod delivery;
 mod exchange;
 mod issue;
 
-ghost use Rattle.std.specs.Prelude.{◌≡◌};
+ghost use Rattle.std.specs.Prelude.{◌≡◌, Some, None};
 ghost use Rattle.wire.specs.Bytes.{laid_in, word};
-ghost use Rattle.standing.specs.Rules.{broken_by};
-ghost use Rattle.card.specs.View.{view, put, on_channel};
+ghost use Rattle.card.specs.View.{view, put, broken, on_channel};
 ghost use Rattle.card.specs.Outcome.{reply_of};
+ghost use Rattle.card.specs.Laws.{reply};
 ghost use Rattle.card.specs.Events.{ended, bench_refusal, session_changed, powered_up, personalised};
 
-use chains::Chain;
 use channel::{Channel, Stage};
 use checks::Status;
 use datafiles::Files;
 use keys::Keys;
 use logfile::Log;
 use purse::Purse;
+use refusals::Refusal;
 use roles::Role;
 use settings::Settings;
 
@@ -32,14 +32,40 @@ pub struct Card {
     pub channel: Channel,
 }
 
-// What an event answers: the card, the bench refusal's number or 0, the slot bytes of the log that it stored, and the length of
-// the reply.
+// What an event answers: the card, the bench refusal, if any, the slot bytes of the log that it stored, and the length of the
+// reply.
 #[derive(Clone, Copy)]
 pub struct Reply {
     pub card: Card,
-    pub refusal: u8,
+    pub refusal: Option<Refusal>,
     pub stored: u8,
     pub len: usize,
+}
+
+impl Reply {
+    // A bench refusal, which stores and replies nothing.
+    fn refused(card: Card, refusal: Refusal) -> Reply
+        ensures { result ≡ reply card (Some refusal) 0 }
+    {
+        Reply {
+            card,
+            refusal: Some(refusal),
+            stored: 0,
+            len: 0,
+        }
+    }
+
+    // A reply of len bytes to an event that stored nothing.
+    fn sent(card: Card, len: usize) -> Reply
+        ensures { result ≡ reply card None len }
+    {
+        Reply {
+            card,
+            refusal: None,
+            stored: 0,
+            len,
+        }
+    }
 }
 
 impl Card {
@@ -80,42 +106,42 @@ impl Card {
 
     pub const NOTHING_PENDING: u16 = Status::NothingPending as u16;
 
-    // The bench refusal of an event with a reply buffer of this room, or 0, on a card of these parts.
-    fn bench_refusal(
-        settings: Settings,
-        purse: Purse,
-        log: Log,
-        stage: Stage,
-        chain: Chain,
-        room: usize,
-    ) -> u8
-        ensures { result ≡ bench_refusal (broken_by settings purse log stage chain) room }
+    // Whether the card breaks a standing rule.
+    fn breaks(&self) -> bool
+        ensures { result ≡ broken self.now }
+    {
+        let channel = &self.channel;
+        standing::breaks(
+            self.settings,
+            self.purse,
+            self.log,
+            channel.stage,
+            channel.chain,
+        )
+    }
+
+    // The bench refusal of an event with a reply buffer of this room, if any.
+    fn bench_refusal(&self, room: usize) -> Option<Refusal>
+        ensures { result ≡ bench_refusal (broken self.now) room }
     {
         if room < Card::REPLY_ROOM {
-            return 5;
+            return Some(Refusal::ShortBuffer);
         }
-        if standing::breaks(settings, purse, log, stage, chain) {
-            return 6;
+        if self.breaks() {
+            return Some(Refusal::BrokenRule);
         }
-        0
+        None
     }
 
     // The card with its session ended, and pending work and an open chain dropped.
     fn ended(self) -> Card
         ensures { result ≡ put self 0 (ended (view self)) }
     {
-        let settings = self.settings;
-        let keys = self.keys;
-        let files = self.files;
-        let purse = self.purse;
-        let log = self.log;
         Card {
-            settings,
-            keys,
-            files,
-            purse: purse.drop_pending(),
-            log: log.drop_pending(),
+            purse: self.purse.drop_pending(),
+            log: self.log.drop_pending(),
             channel: Channel::bare(Stage::Closed),
+            ..self
         }
     }
 
@@ -123,19 +149,7 @@ impl Card {
     fn on_channel(self, channel: Channel) -> Card
         ensures { result ≡ on_channel self channel }
     {
-        let settings = self.settings;
-        let keys = self.keys;
-        let files = self.files;
-        let purse = self.purse;
-        let log = self.log;
-        Card {
-            settings,
-            keys,
-            files,
-            purse,
-            log,
-            channel,
-        }
+        Card { channel, ..self }
     }
 
     // Lays a status alone over the front of reply, and answers its length.
@@ -152,81 +166,34 @@ impl Card {
         ensures { result ≡ reply_of (session_changed self session) }
     {
         if !access::is_session_sound(session) {
-            return Reply {
-                card: self,
-                refusal: 4,
-                stored: 0,
-                len: 0,
-            };
+            return Reply::refused(self, Refusal::UnknownKey);
         }
-        let settings = self.settings;
-        let purse = self.purse;
-        let log = self.log;
-        let channel = self.channel;
-        let stage = channel.stage;
-        let chain = channel.chain;
-        if standing::breaks(settings, purse, log, stage, chain) {
-            return Reply {
-                card: self,
-                refusal: 6,
-                stored: 0,
-                len: 0,
-            };
+        if self.breaks() {
+            return Reply::refused(self, Refusal::BrokenRule);
         }
-        let card = self.on_channel(Channel::bare(Stage::from(session)));
-        Reply {
-            card,
-            refusal: 0,
-            stored: 0,
-            len: 0,
-        }
+        Reply::sent(
+            self.on_channel(Channel::bare(Stage::from(session))),
+            0,
+        )
     }
 
     // A power-up ends the session and drops pending work.
     pub fn power_up(self) -> Reply
         ensures { result ≡ reply_of (powered_up self) }
     {
-        let settings = self.settings;
-        let purse = self.purse;
-        let log = self.log;
-        let channel = self.channel;
-        let stage = channel.stage;
-        let chain = channel.chain;
-        if standing::breaks(settings, purse, log, stage, chain) {
-            return Reply {
-                card: self,
-                refusal: 6,
-                stored: 0,
-                len: 0,
-            };
+        if self.breaks() {
+            return Reply::refused(self, Refusal::BrokenRule);
         }
-        let card = self.ended();
-        Reply {
-            card,
-            refusal: 0,
-            stored: 0,
-            len: 0,
-        }
+        Reply::sent(self.ended(), 0)
     }
 
     // A new card, or a bench refusal with the blank one beside it.
     pub fn personalise(settings: Settings, keys: Keys, value: i32) -> Reply
         ensures { result ≡ reply_of (personalised settings keys value) }
     {
-        let refusal = standing::refusal(settings, value);
-        if refusal != 0 {
-            return Reply {
-                card: issue::blank(),
-                refusal,
-                stored: 0,
-                len: 0,
-            };
-        }
-        Reply {
-            card: issue::issued(settings, keys, value),
-            refusal: 0,
-            stored: 0,
-            len: 0,
+        match standing::refusal(settings, value) {
+            Some(refusal) => Reply::refused(issue::blank(), refusal),
+            None => Reply::sent(issue::issued(settings, keys, value), 0),
         }
     }
 }

@@ -1,5 +1,5 @@
 -- The three demands, stated: each field is a sentence. The theorems demand1, demand2, standing, demand3, equal_replies and in_code prove them.
-use Rattle.std.specs.Prelude.{ℕ, ◌+◌, ◌≤◌, ◌<◌, Bool, true, false, ◌||◌, List, [], ◌∷◌, ◌++◌, ◌↔◌, ◌⊎◌, ◌≡◌, eqb, ℤ, length}
+use Rattle.std.specs.Prelude.{ℕ, ◌+◌, ◌≤◌, ◌<◌, Bool, true, false, ◌||◌, List, [], ◌∷◌, ◌++◌, ◌↔◌, ◌⊎◌, ◌≡◌, eqb, ℤ, length, None}
 use Rattle.tables.specs.Reasons.{Reason, NoReason}
 use Rattle.wire.specs.Bytes.{laid, word}
 use Rattle.roles.specs.declared.Role.{Role}
@@ -73,14 +73,14 @@ pub record Replied (c : Card) (before after : List ℕ) (r : Reply) : Type 0 whe
   pub bytes : after ≡ laid before 0 (shown ++ word status)
   pub len : r.len ≡ length shown + 2
   pub room : r.len ≤ reply_room
-  pub refusal : r.refusal ≡ 0
+  pub refusal : r.refusal ≡ None
   pub refused : Refusal status → (shown ≡ []) × Untouched c r.card
 
 -- no reply: an accepted opening, or an accepted frame of file bytes that is not the last
 pub record Silent (before after : List ℕ) (r : Reply) : Type 0 where
   pub bytes : after ≡ before
   pub len : r.len ≡ 0
-  pub refusal : r.refusal ≡ 0
+  pub refusal : r.refusal ≡ None
 
 -- the method `command`, as its contract says, left this buffer and returned r
 pub record Demand1 (c : Card) (before after : List ℕ) (r : Reply) : Type 0 where
@@ -137,7 +137,7 @@ Clean k = is_real k.stage ≡ false → is_waiting k.stage ≡ false → k ≡ c
 
 -- an accepted personalisation: bench refusals 1 to 3, 7 and 8 are not given
 abbrev pub Taken : Settings → ℤ → Type 0
-Taken s v = order_refusal s v ≡ 0
+Taken s v = order_refusal s v ≡ None
 
 -- its card after a history
 abbrev pub reached : Settings → Keys → ℤ → List Event → Card
@@ -147,7 +147,7 @@ reached s ks v es = run next (issued s ks v) es
 -- first part waits, it holds no byte of one
 pub record Standing (s : Settings) (ks : Keys) (v : ℤ) (es : List Event) : Type 0 where
   pub keeps : Kept (reached s ks v es)
-  pub never : (e : Event) → (outcome (reached s ks v es) e).refusal ≡ 0
+  pub never : (e : Event) → (outcome (reached s ks v es) e).refusal ≡ None
   pub clean : Clean (reached s ks v es).channel
 
 -- ---- demand 3: value, allowance and log are the books over the struck history
@@ -170,7 +170,7 @@ EqualReplies = (c d : Card) → Kept c → Kept d → c.settings ≡ d.settings 
 -- no bench refusal among what was seen
 abbrev pub Unrefused : List Said → Type 0
 Unrefused [] = Unit {0}
-Unrefused (x ∷ xs) = (x.refusal ≡ 0) × Unrefused xs
+Unrefused (x ∷ xs) = (x.refusal ≡ None) × Unrefused xs
 
 -- calls of the methods led from the personalised card to d, with the history es, and ss was seen of its events
 pub record InCode (s : Settings) (ks : Keys) (v : ℤ) (es : List Event) (ss : List Said) (d : Card) : Type 0 where

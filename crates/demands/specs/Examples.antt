@@ -58,10 +58,10 @@ abbrev pub sends : ℕ → List ℕ → Event
 sends i d = command (frame.framed i d) zeros zeros_handed
 
 abbrev says : List ℕ → Said
-says bytes = record { refusal = 0; bytes = bytes; len = length bytes }
+says bytes = record { refusal = None; bytes = bytes; len = length bytes }
 
 -- the personalisation is accepted
-pub taken : rules.order_refusal program (pos 100) ≡ 0
+pub taken : rules.order_refusal program (pos 100) ≡ None
 unfolding replies rules.first_fault rules.order_refusal
 taken = refl
 

@@ -1,5 +1,7 @@
 -- The card with the former log, whose commits moved the older entries. No code is behind it: it is what the ring is held against.
-use Rattle.std.specs.Prelude.{ℕ, ◌*◌, Bool, false, List, [], ℤ, length, replicate}
+use Rattle.std.specs.Prelude.{ℕ, ◌*◌, Bool, false, List, [], ℤ, length, replicate, None, Option, Some}
+use Rattle.refusals.specs.declared.Refusal.{Refusal}
+use Rattle.refusals.specs.declared.Refusal.TheVariants.{BrokenRule}
 use Rattle.tables.specs.Choice.{pick}
 use Rattle.datafiles.specs.declared.Files.{Files}
 use Rattle.datafiles.specs.Files as files
@@ -51,18 +53,18 @@ was_broken c =
     (record { slots = c.log.slots; place = 0; count = c.log.count; entry = c.log.entry; adds = c.log.adds; clears = c.log.clears })
     c.channel.stage c.channel.chain
 
--- what it answered: the card, the bench refusal's number or 0, and the bytes of the reply
+-- what it answered: the card, the bench refusal, if any, and the bytes of the reply
 pub record Answer : Type 0 where
   pub card : FormerCard
-  pub refusal : ℕ
+  pub refusal : Option Refusal
   pub out : List ℕ
 
 abbrev pub moved_into : FormerCard → Played → Answer
-moved_into c p = record { card = moved c p.state; refusal = 0; out = p.out }
+moved_into c p = record { card = moved c p.state; refusal = None; out = p.out }
 
 -- by the same rules
 unfoldable pub answer : FormerCard → Event → Answer
-answer c e = pick (was_broken c) (record { card = c; refusal = 6; out = [] }) (moved_into c (plays (viewed c) e))
+answer c e = pick (was_broken c) (record { card = c; refusal = Some BrokenRule; out = [] }) (moved_into c (plays (viewed c) e))
 
 abbrev pub former_next : FormerCard → Event → FormerCard
 former_next c e = (answer c e).card

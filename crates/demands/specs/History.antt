@@ -1,5 +1,6 @@
 -- Histories of a card: the events, what the card answers to each, and what became of each.
 use Rattle.std.specs.Prelude.{ℕ, true, List, [], ◌∷◌, ◌≡◌, eqb, length, Option}
+use Rattle.refusals.specs.declared.Refusal.{Refusal}
 use Rattle.tables.specs.Choice.{pick}
 use Rattle.access.specs.Rights.{session_sound}
 use Rattle.roles.specs.declared.Role.{Role}
@@ -55,9 +56,9 @@ plays s (delivers b) = bytes_played s b
 plays s (session k known) = record { state = with_session s k; stored = 0; out = [] }
 plays s power = record { state = ended s; stored = 0; out = [] }
 
--- all that is seen of an event: the bench refusal's number or 0, the reply's bytes, its length
+-- all that is seen of an event: the bench refusal, if any, the reply's bytes, its length
 pub record Said : Type 0 where
-  pub refusal : ℕ
+  pub refusal : Option Refusal
   pub bytes : List ℕ
   pub len : ℕ
 

@@ -7,6 +7,7 @@ use Rattle.card.specs.Outcome.{Outcome}
 use Rattle.card.specs.Events.{session_changed, powered_up, personalised}
 use Rattle.text.specs.Hex.{is_hex, spelt}
 use Rattle.decimal.specs.Decimal.{decimal}
+use Rattle.refusals.specs.Numbers.{number_of}
 use Rattle.answers.specs.Answers.{numbered, refusal_text}
 use Rattle.books.specs.Books.{books_text}
 use Rattle.orders.specs.Order.{order_in}
@@ -29,7 +30,7 @@ powered k = record { next = after_event k (powered_up k.card).card (powered_up k
 
 -- the number, 0 where nothing was refused
 unfoldable pub counted : Desk → Outcome → Said Desk
-counted k o = record { next = after_event k o.card o.stored; out = numbered o.refusal }
+counted k o = record { next = after_event k o.card o.stored; out = numbered (number_of o.refusal) }
 
 -- ---- R: the length of the buffer lent to the events that follow
 

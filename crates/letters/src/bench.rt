@@ -61,7 +61,7 @@ fn lend(mut desk: Desk, n: usize) -> Told
     desk.room = n;
     Told {
         desk,
-        notice: Notice::Number(0),
+        notice: Notice::Number(None),
     }
 }
 
@@ -87,7 +87,7 @@ fn hand_in(mut desk: Desk, b: &[u8]) -> Told
     desk.inputs = inputs;
     Told {
         desk,
-        notice: Notice::Number(0),
+        notice: Notice::Number(None),
     }
 }
 

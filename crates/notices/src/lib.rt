@@ -11,26 +11,27 @@ use chains::Chain;
 use channel::Stage;
 use logfile::Log;
 use purse::Purse;
+use refusals::Refusal;
 
-// `?`, `!` and a number, the same but nothing for 0, the two bytes of a status word in digits, a count, the books.
+// `?`, `!` and a bench refusal's number or 0, the same but nothing without a refusal, the two bytes of a status word in digits, a count, the books.
 #[derive(Clone, Copy)]
 pub enum Notice {
     Unread,
-    Number(u8),
-    Refusal(u8),
+    Number(Option<Refusal>),
+    Refusal(Option<Refusal>),
     Status(u8, u8),
     Count(u8),
     Books,
 }
 
-// `!` and a number, and nothing for 0.
-fn put_number_but_0(n: u8, answer: &mut [u8]) -> usize
-    ensures { Shows (in_room (length answer.old) (refusal_text n)) answer.old answer.new result }
+// `!` and a bench refusal's number, and nothing without one.
+fn put_refusal(refusal: Option<Refusal>, answer: &mut [u8]) -> usize
+    ensures { Shows (in_room (length answer.old) (refusal_text refusal)) answer.old answer.new result }
 {
-    if n == 0 {
-        return 0;
+    match refusal {
+        Some(refusal) => answers::put_number(refusal.number(), answer),
+        None => 0,
     }
-    answers::put_number(n, answer)
 }
 
 // Lays a notice over the front of text, and answers the number of its characters; the books are those of the parts given.
@@ -51,11 +52,11 @@ fn put_text(
             wire::lay(text, 0, &one);
             return 1;
         }
-        Notice::Number(n) => {
-            return answers::put_number(n, text);
+        Notice::Number(refusal) => {
+            return answers::put_number(refusals::number_of(refusal), text);
         }
-        Notice::Refusal(n) => {
-            return put_number_but_0(n, text);
+        Notice::Refusal(refusal) => {
+            return put_refusal(refusal, text);
         }
         Notice::Status(high, low) => {
             let two = [high, low];

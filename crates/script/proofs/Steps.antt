@@ -4,7 +4,9 @@ use Rattle.std.specs.Prelude.{Option, Some, None}
 use mathlib.Core.List.{List, [], ◌∷◌, ◌++◌}
 use mathlib.Core.Path.{◌≡◌, refl, sym, ap, ◌∙◌}
 use borrow.Author.Tests.{le-leb}
-use lib.Dec.{eqb}
+use Rattle.std.specs.Prelude.{Option, is_none}
+use Rattle.refusals.specs.declared.Refusal.{Refusal}
+use Rattle.refusals.specs.Numbers.{number_of}
 use lib.ListN.{length, drop, length-append, length-take}
 use native.Mathlib.Nat.{sub-zero}
 use native.Mathlib.Omega.{arith}
@@ -52,11 +54,11 @@ unfolding after_event
 own_state k = refl
 
 -- where there is room for every answer, one is written
-pub written : (out x : List ℕ) (n m r : ℕ) (bytes : List ℕ) → Adds (in_room (length out - n) (reply_line r bytes)) out n x m
+pub written : (out x : List ℕ) (n m : ℕ) (r : Option Refusal) (bytes : List ℕ) → Adds (in_room (length out - n) (reply_line r bytes)) out n x m
     → length bytes ≤ 512 → 1025 ≤ length out - n → m ≡ n → ⊥
 unfolding in_room reply_line reply_text numbered
 written out x n m r bytes a h room e =
-    let t : length (reply_text r bytes) ≤ 1024 = pick_cases (λ (l : List ℕ). length l ≤ 1024) (eqb r 0) (in_digits bytes) (numbered r) (λ z. omega (arith, length_digits bytes)) (λ z. omega arith) in
+    let t : length (reply_text r bytes) ≤ 1024 = pick_cases (λ (l : List ℕ). length l ≤ 1024) (is_none r) (in_digits bytes) (numbered (number_of r)) (λ z. omega (arith, length_digits bytes)) (λ z. omega arith) in
     let l = length-append (reply_text r bytes) (0x0A ∷ []) in
     let p : in_room (length out - n) (reply_line r bytes) ≡ reply_line r bytes = picked _ _ (le-leb (length (reply_line r bytes)) (length out - n) (omega arith)) in
     omega (arith, a.1, ap length p)

@@ -41,7 +41,7 @@ pub fn run(mut desk: Desk, text: &[u8], out: &mut [u8]) -> Progress<Desk>
     let first = desk.card;
     let mut played = Reply {
         card: first,
-        refusal: 0,
+        refusal: None,
         stored: desk.stored,
         len: 0,
     };
@@ -92,7 +92,7 @@ pub fn run(mut desk: Desk, text: &[u8], out: &mut [u8]) -> Progress<Desk>
         let next = desk.card;
         played = Reply {
             card: next,
-            refusal: 0,
+            refusal: None,
             stored: desk.stored,
             len: 0,
         };

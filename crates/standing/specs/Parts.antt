@@ -13,7 +13,7 @@ use Rattle.channel.specs.declared.Stage.{Stage}
 use Rattle.channel.specs.Channel.{stage_sound, is_waiting}
 use Rattle.settings.specs.declared.Settings.{Settings}
 use Rattle.settings.specs.Settings.{rights_broken, number_above, number_twice}
-use Rattle.standing.specs.Rules.{unequal, rules}
+use Rattle.standing.specs.Rules.{unequal}
 
 -- of the value file; log_pending: a new entry or a clear is pending
 abbrev pub value_rules : Limits → Purse → Bool → List Bool

@@ -1,8 +1,10 @@
 -- The standing rules, which bench refusal 6 tests, and bench refusals 1 to 3, 7 and 8 of an order.
-use Rattle.std.specs.Prelude.{ℕ, List, [], ◌∷◌, Bool, not, ◌&&◌, ◌||◌, ltb, eqb, ℤ}
+use Rattle.std.specs.Prelude.{List, [], ◌∷◌, Bool, not, ◌&&◌, ◌||◌, ltb, eqb, ℤ, Option, Some, None}
 use Rattle.std.specs.Int.{w32}
 use Rattle.std.proofs.Common.{of_z}
 use Rattle.tables.specs.Choice.{pick, any}
+use Rattle.refusals.specs.declared.Refusal.{Refusal}
+use Rattle.refusals.specs.declared.Refusal.TheVariants.{WrongRights, CrossedLimits, ValueOutside, NumberAbove, NumberTwice}
 use Rattle.limits.specs.Limits.{crossed, within}
 use Rattle.purse.specs.declared.Purse.{Purse}
 use Rattle.purse.specs.Purse.{largest}
@@ -56,11 +58,12 @@ broken_by s p l g k = any (rules s p l g k)
 
 -- ---- personalisation
 
--- the bench refusal's number by the first of an order's faults; 0 without one
-unfoldable pub first_fault : Bool → Bool → Bool → Bool → Bool → ℕ
-first_fault rights crossed outside above twice = pick rights 1 (pick crossed 2 (pick outside 3 (pick above 7 (pick twice 8 0))))
+-- the bench refusal by the first of an order's faults, if any
+unfoldable pub first_fault : Bool → Bool → Bool → Bool → Bool → Option Refusal
+first_fault rights crossed outside above twice =
+    pick rights (Some WrongRights) (pick crossed (Some CrossedLimits) (pick outside (Some ValueOutside) (pick above (Some NumberAbove) (pick twice (Some NumberTwice) None))))
 
 -- of an order with the starting value v: a rights nibble is 5 to Dh; lower limit above upper; starting value outside the limits; a
 -- file's number above 1Fh; two files of the same number
-unfoldable pub order_refusal : Settings → ℤ → ℕ
+unfoldable pub order_refusal : Settings → ℤ → Option Refusal
 order_refusal s v = first_fault (rights_broken s) (crossed s.limits) (not (within s.limits v)) (number_above s) (number_twice s)

@@ -2,7 +2,7 @@
 #![tactic(auto)]
 
 ghost use Rattle.std.specs.Prelude.{◌≡◌};
-ghost use Rattle.standing.specs.Rules.{unequal, broken_by, first_fault, order_refusal};
+ghost use Rattle.standing.specs.Rules.{unequal, broken_by, order_refusal};
 ghost use Rattle.standing.specs.Parts.{value_broken, log_broken, chain_broken};
 
 use chains::Chain;
@@ -10,6 +10,7 @@ use channel::Stage;
 use limits::Limits;
 use logfile::Log;
 use purse::Purse;
+use refusals::Refusal;
 use settings::Settings;
 
 // Whether the pending figures differ from the committed ones, or a Debit is noted.
@@ -64,37 +65,17 @@ pub fn breaks(settings: Settings, purse: Purse, log: Log, stage: Stage, chain: C
     rights | crossed | above | twice | !known | in_log | in_value | in_chain
 }
 
-// The first of an order's faults names its refusal; 0 without one.
-fn first_fault(rights: bool, crossed: bool, outside: bool, above: bool, twice: bool) -> u8
-    ensures { result ≡ first_fault rights crossed outside above twice }
-{
-    if rights {
-        return 1;
-    }
-    if crossed {
-        return 2;
-    }
-    if outside {
-        return 3;
-    }
-    if above {
-        return 7;
-    }
-    if twice {
-        return 8;
-    }
-    0
-}
-
-// The bench refusal of a personalisation, or 0.
-pub fn refusal(settings: Settings, value: i32) -> u8
+// The bench refusal of a personalisation, if any: the first of the order's faults names it.
+pub fn refusal(settings: Settings, value: i32) -> Option<Refusal>
     ensures { result ≡ order_refusal settings value }
 {
     let limits = settings.limits;
-    let rights = settings.has_wrong_rights();
-    let crossed = limits.are_crossed();
-    let held = limits.hold(value);
-    let above = settings.has_number_above();
-    let twice = settings.has_number_twice();
-    first_fault(rights, crossed, !held, above, twice)
+    let first = reasons::first(&[
+        (settings.has_wrong_rights(), Refusal::WrongRights),
+        (limits.are_crossed(), Refusal::CrossedLimits),
+        (!limits.hold(value), Refusal::ValueOutside),
+        (settings.has_number_above(), Refusal::NumberAbove),
+        (settings.has_number_twice(), Refusal::NumberTwice),
+    ]);
+    first.err()
 }

@@ -2,7 +2,8 @@
 use Prim.Native.Nat.{ℕ}
 use mathlib.Core.List.{List, [], ◌∷◌}
 use mathlib.Core.Path.{◌≡◌, refl, sym, ap, ◌∙◌}
-use borrow.Author.Tests.{eq-eqb}
+use Rattle.std.specs.Prelude.{Option, None, is_none}
+use Rattle.refusals.specs.declared.Refusal as bench
 use lib.ListN.{length, get_or}
 use native.Mathlib.Omega.{arith}
 use Rattle.tables.specs.Choice.{picked}
@@ -19,16 +20,16 @@ use Rattle.told.specs.Told.{said_of, after_event, replied}
 use Rattle.told.specs.Laws.{Plays, reply_bytes, Tells}
 
 -- a reply of nothing and one of two bytes, as they are told
-pub tells_none : (r : ℕ) (x : List ℕ) → length x ≡ 0 → Tells (Refusal r) r x
+pub tells_none : (r : Option bench.Refusal) (x : List ℕ) → length x ≡ 0 → Tells (Refusal r) r x
 unfolding notice_text refusal_text reply_text in_digits
 tells_none r [] e p l g k = refl
 tells_none r (a ∷ x) e p l g k = absurd (omega arith)
 
-pub tells_two : (r : ℕ) (x : List ℕ) → r ≡ 0 → length x ≡ 2 → Tells (Status (get_or x 0 0) (get_or x 1 0)) r x
+pub tells_two : (r : Option bench.Refusal) (x : List ℕ) → r ≡ None → length x ≡ 2 → Tells (Status (get_or x 0 0) (get_or x 1 0)) r x
 unfolding notice_text reply_text
 tells_two r [] z e p l g k = absurd (omega arith)
 tells_two r (a ∷ []) z e p l g k = absurd (omega arith)
-tells_two r (a ∷ b ∷ []) z e p l g k = sym (picked _ _ (eq-eqb r 0 z))
+tells_two r (a ∷ b ∷ []) z e p l g k = sym (picked _ _ (ap is_none z))
 tells_two r (a ∷ b ∷ c ∷ x) z e p l g k = absurd (omega arith)
 
 -- what is told of a reply

@@ -1,11 +1,12 @@
 -- Laws of a reply in a lent buffer, and of the replies in a chain.
-use Rattle.std.specs.Prelude.{ℕ, ◌-◌, ◌≤◌, Bool, List, ◌++◌, ◌≡◌, refl, eqb, length, take, drop}
+use Rattle.std.specs.Prelude.{ℕ, ◌-◌, ◌≤◌, Bool, List, ◌++◌, ◌≡◌, refl, Option, None, is_none, length, take, drop}
 use Rattle.std.proofs.Common.{sym, ap, subst, ◌∙◌, arith}
 use Rattle.std.proofs.lemmas.List.{take-append-le}
 use Rattle.std.proofs.Math.Nat.{sub-zero}
 use Rattle.tables.specs.Choice.{pick, pick_both}
 use Rattle.wire.specs.Bytes.{part, word}
 use Rattle.wire.proofs.Laws.{length_part, front_laid, front_fits}
+use Rattle.refusals.specs.declared.Refusal.{Refusal}
 use Rattle.purse.specs.declared.Purse.{Purse}
 use Rattle.logfile.specs.declared.Log.{Log}
 use Rattle.chains.specs.declared.Chain.{Chain}
@@ -57,17 +58,17 @@ abbrev pub Short : List ℕ → Type 0
 Short x = (length x ≡ 0 → ⊥) → length x ≡ 2
 
 -- and a bench refusal has none
-abbrev pub Brief : ℕ → List ℕ → Type 0
-Brief refusal x = (length x ≡ 0 → ⊥) → (refusal ≡ 0) × (length x ≡ 2)
+abbrev pub Brief : Option Refusal → List ℕ → Type 0
+Brief refusal x = (length x ≡ 0 → ⊥) → (refusal ≡ None) × (length x ≡ 2)
 
 -- the notice n shows the reply x, beside any books
-abbrev pub Tells : Notice → ℕ → List ℕ → Type 0
+abbrev pub Tells : Notice → Option Refusal → List ℕ → Type 0
 Tells n refusal x = (p : Purse) (l : Log) (g : Stage) (k : Chain) → notice_text n p l g k ≡ reply_text refusal x
 
 played_brief : (c : Card) (room : ℕ) (b : Bool) (p q : Played) → Short p.out → Short q.out → let o = benched c room (pick b p q) in Brief o.refusal o.out
 unfolding laid_into bench
 played_brief c room b p q h k =
-    pick_both (λ (o : Outcome). Brief o.refusal o.out) (eqb (bench_refusal (broken c) room) 0) (laid_into c (pick b p q)) (bench c (bench_refusal (broken c) room))
+    pick_both (λ (o : Outcome). Brief o.refusal o.out) (is_none (bench_refusal (broken c) room)) (laid_into c (pick b p q)) (bench c (bench_refusal (broken c) room))
     (λ e. (refl, pick_both (λ (x : Played). Short x.out) b p q h k e))
     (λ e. absurd (e refl))
 

@@ -11,6 +11,7 @@ ghost use Rattle.told.specs.Laws.{Brief, Tells};
 use card::{Card, Reply};
 use desk::{Desk, MOST_ROOM};
 use notices::Notice;
+use refusals::Refusal;
 
 // A desk after a line, and the answer.
 #[derive(Clone, Copy)]
@@ -30,7 +31,7 @@ fn event(card: Card, opens: bool, b: &[u8], reply: &mut [u8]) -> Reply
 }
 
 // The answer to a reply, which is a status word or nothing.
-fn answer(refusal: u8, reply: &[u8]) -> Notice
+fn answer(refusal: Option<Refusal>, reply: &[u8]) -> Notice
     requires { Brief refusal reply.now }
     ensures { Tells result refusal reply.now }
 {

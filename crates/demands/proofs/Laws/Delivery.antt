@@ -1,5 +1,5 @@
 -- Frames of file bytes one behind the other are one delivery of all their bytes.
-use Rattle.std.specs.Prelude.{ℕ, ◌+◌, ◌-◌, ◌≤◌, ◌<◌, Bool, true, false, not, ◌≡◌, leb}
+use Rattle.std.specs.Prelude.{ℕ, ◌+◌, ◌-◌, ◌≤◌, ◌<◌, Bool, true, false, not, ◌≡◌, leb, None}
 use mathlib.Core.List.{List, [], ◌∷◌, ◌++◌, append-nil}
 use Rattle.std.proofs.Math.Path.{refl, sym, ap}
 use Rattle.std.proofs.Common.{◌∙◌, arith, ne_eqb, le-leb, le-ltb, leb-true, leb-false}
@@ -55,28 +55,28 @@ given c x =
     }
 
 module _ (c : Card) (h : Kept c) where
-  pub opens_card : (f : List ℕ) → opening_status (view c).core f ≡ ok → outcome c (opens f) ≡ record { card = chain_on c (announced (role_in c.settings (data_of f)) (data_of f)); refusal = 0; stored = 0; out = [] }
+  pub opens_card : (f : List ℕ) → opening_status (view c).core f ≡ ok → outcome c (opens f) ≡ record { card = chain_on c (announced (role_in c.settings (data_of f)) (data_of f)); refusal = None; stored = 0; out = [] }
   opens_card f e = outcome_plays c h (opens f) ∙ taken ∙ laid_in_lem
     where
       taken : laid_into c (plays (view c) (opens f)) ≡ laid_into c (opening (view c) (data_of f))
       taken = unfold plays opening_played in sym (judged_accepted c (opening_status (view c).core f) (opening (view c) (data_of f)) e)
 
-      laid_in_lem : laid_into c (opening (view c) (data_of f)) ≡ record { card = chain_on c (announced (role_in c.settings (data_of f)) (data_of f)); refusal = 0; stored = 0; out = [] }
+      laid_in_lem : laid_into c (opening (view c) (data_of f)) ≡ record { card = chain_on c (announced (role_in c.settings (data_of f)) (data_of f)); refusal = None; stored = 0; out = [] }
       laid_in_lem = unfold laid_into opening put view chain_on in
-          ap (λ (l : Log). record { card = record { settings = c.settings; keys = c.keys; files = c.files; purse = c.purse; log = l; channel = chained c.channel (announced (role_in c.settings (data_of f)) (data_of f)) }; refusal = 0; stored = 0; out = [] }) (logfile.put_view c.log)
+          ap (λ (l : Log). record { card = record { settings = c.settings; keys = c.keys; files = c.files; purse = c.purse; log = l; channel = chained c.channel (announced (role_in c.settings (data_of f)) (data_of f)) }; refusal = None; stored = 0; out = [] }) (logfile.put_view c.log)
 
   pub delivers_card : (b : List ℕ) → bytes_status c.channel.chain b ≡ ok
-      → outcome c (delivers b) ≡ record { card = given c b; refusal = 0; stored = 0; out = pick (completes c.channel.chain (length b)) (word ok) [] }
+      → outcome c (delivers b) ≡ record { card = given c b; refusal = None; stored = 0; out = pick (completes c.channel.chain (length b)) (word ok) [] }
   delivers_card b e = outcome_plays c h (delivers b) ∙ taken ∙ laid_in_lem
     where
       taken : laid_into c (plays (view c) (delivers b)) ≡ laid_into c (delivered (view c) b)
       taken = unfold plays bytes_played view in sym (judged_accepted c (bytes_status c.channel.chain b) (delivered (view c) b) e)
 
-      laid_in_lem : laid_into c (delivered (view c) b) ≡ record { card = given c b; refusal = 0; stored = 0; out = pick (completes c.channel.chain (length b)) (word ok) [] }
+      laid_in_lem : laid_into c (delivered (view c) b) ≡ record { card = given c b; refusal = None; stored = 0; out = pick (completes c.channel.chain (length b)) (word ok) [] }
       laid_in_lem = unfold laid_into delivered put view given in
           ap (λ (l : Log). record {
             card = record { settings = c.settings; keys = c.keys; files = written c.files c.channel.chain.file (next_place c.channel.chain) b; purse = c.purse; log = l; channel = advanced c.channel (length b) };
-            refusal = 0;
+            refusal = None;
             stored = 0;
             out = pick (completes c.channel.chain (length b)) (word ok) [];
           }) (logfile.put_view c.log)

@@ -1,5 +1,7 @@
 -- What each event does to the log's slots and to the place of the newest entry.
-use Rattle.std.specs.Prelude.{ℕ, not, ◌≡◌, eqb}
+use Rattle.std.specs.Prelude.{ℕ, not, ◌≡◌, eqb, Option, Some, is_none}
+use Rattle.refusals.specs.declared.Refusal.{Refusal}
+use Rattle.refusals.specs.declared.Refusal.TheVariants.{BrokenRule, UnknownKey}
 use mathlib.Core.List.{List, []}
 use Rattle.std.proofs.Math.Path.{refl}
 use Rattle.std.proofs.Common.{sym, subst}
@@ -69,7 +71,7 @@ abbrev Turned : Card → Outcome → Type 0
 Turned c o = o.card.log.place ≡ log.turned o.stored (place_of c)
 
 module _ (c : Card) where
-  bench_turned : (n : ℕ) → Turned c (bench c n)
+  bench_turned : (n : Option Refusal) → Turned c (bench c n)
   unfolding bench
   bench_turned n = refl
 
@@ -78,10 +80,10 @@ module _ (c : Card) where
   laid_turned p = refl
 
   benched_turned : (p : Played) → Turned c (benched c reply_room p)
-  benched_turned p = pick_both (Turned c) (eqb (bench_refusal (broken c) reply_room) 0) (laid_into c p) (bench c (bench_refusal (broken c) reply_room)) (laid_turned p) (bench_turned (bench_refusal (broken c) reply_room))
+  benched_turned p = pick_both (Turned c) (is_none (bench_refusal (broken c) reply_room)) (laid_into c p) (bench c (bench_refusal (broken c) reply_room)) (laid_turned p) (bench_turned (bench_refusal (broken c) reply_room))
 
-  unless_broken : (p : Played) → Turned c (pick (broken c) (bench c 6) (laid_into c p))
-  unless_broken p = pick_both (Turned c) (broken c) (bench c 6) (laid_into c p) (bench_turned 6) (laid_turned p)
+  unless_broken : (p : Played) → Turned c (pick (broken c) (bench c (Some BrokenRule)) (laid_into c p))
+  unless_broken p = pick_both (Turned c) (broken c) (bench c (Some BrokenRule)) (laid_into c p) (bench_turned (Some BrokenRule)) (laid_turned p)
 
   pub turns : (e : Event) → Turned c (outcome c e)
   unfolding outcome
@@ -90,5 +92,5 @@ module _ (c : Card) where
   turns (delivers b) = unfold bytes_sent in benched_turned (bytes_played (view c) b)
   turns (session k known) =
       let p : Played = record { state = with_session (view c) k; stored = 0; out = [] } in
-      unfold session_changed in pick_both (Turned c) (not (session_sound k)) (bench c 4) (pick (broken c) (bench c 6) (laid_into c p)) (bench_turned 4) (unless_broken p)
+      unfold session_changed in pick_both (Turned c) (not (session_sound k)) (bench c (Some UnknownKey)) (pick (broken c) (bench c (Some BrokenRule)) (laid_into c p)) (bench_turned (Some UnknownKey)) (unless_broken p)
   turns power = unfold powered_up in unless_broken (record { state = ended (view c); stored = 0; out = [] })

@@ -1,11 +1,12 @@
 -- Demand 1, proved.
-use Rattle.std.specs.Prelude.{ℕ, ◌+◌, ◌≤◌, ◌<◌, Bool, ◌⊎◌, ◌≡◌, eqb}
+use Rattle.std.specs.Prelude.{ℕ, ◌+◌, ◌≤◌, ◌<◌, Bool, ◌⊎◌, ◌≡◌, eqb, Some}
+use Rattle.refusals.specs.declared.Refusal.TheVariants.{ShortBuffer}
 use Rattle.std.proofs.Math.Bool.{true, false}
 use mathlib.Core.List.{List, [], ◌++◌, append_assoc}
 use Rattle.std.proofs.Math.Logic.{inl, inr}
 use Rattle.std.proofs.Math.Path.{refl, sym, ap, subst}
 use Rattle.std.proofs.Common.{◌∙◌, arith}
-use borrow.Author.Tests.{eqb-true, eqb-false, lt-ltb}
+use borrow.Author.Tests.{eqb-true, lt-ltb}
 use Rattle.std.proofs.Math.ListN.{length, length-append}
 use Rattle.tables.specs.Choice.{pick, picked, passed, pick_both}
 use Rattle.wire.specs.Bytes.{laid, word}
@@ -100,8 +101,8 @@ module _ (c : Card) (before after : List ℕ) (r : Reply) where
   pub short_same : (p : Played) → length before < reply_room → Answered (benched c (length before) p) before after r → (r.card ≡ c) × (after ≡ before)
   unfolding reply_of bench
   short_same p less a =
-      let five : 5 ≡ bench_refusal (broken c) (length before) = unfold bench_refusal in sym (picked _ _ (lt-ltb _ _ less)) in
-      let b = answered_as _ _ before after r (sym (refused_bench c (length before) five p (λ e. eqb-false 5 0 refl e))) a in
+      let short : Some ShortBuffer ≡ bench_refusal (broken c) (length before) = unfold bench_refusal in sym (picked _ _ (lt-ltb _ _ less)) in
+      let b = answered_as _ _ before after r (sym (refused_bench c (length before) p short)) a in
       (ap (λ (y : Reply). y.card) b.0, b.1 ∙ sym (laid_none before))
 
 -- ---- a command

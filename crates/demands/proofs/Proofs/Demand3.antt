@@ -1,5 +1,5 @@
 -- Demand 3, proved.
-use Rattle.std.specs.Prelude.{ℕ, ◌≡◌, refl, eqb, ℤ, length}
+use Rattle.std.specs.Prelude.{ℕ, ◌≡◌, refl, eqb, ℤ, length, None}
 use mathlib.Core.List.{List, [], ◌∷◌}
 use Rattle.std.proofs.Math.Path.{sym, ap, subst}
 use Rattle.std.proofs.Common.{◌∙◌}
@@ -104,7 +104,7 @@ demand3 s ks v t es =
 
 -- what is seen of an event on a state
 abbrev pub said_on : State → Event → Said
-said_on s e = record { refusal = 0; bytes = (plays s e).out; len = length (plays s e).out }
+said_on s e = record { refusal = None; bytes = (plays s e).out; len = length (plays s e).out }
 
 pub said_view : (c : Card) → Kept c → (e : Event) → said c e ≡ said_on (view c) e
 unfolding said laid_into reply_of

@@ -1,6 +1,6 @@
 -- What the methods return along a run is what the definitions say.
-use Rattle.std.specs.Prelude.{ℕ, ◌+◌, ◌≤◌, true, false, List, [], ◌∷◌, ◌≡◌, refl, ℤ, length, take, drop, replicate, Option}
-use Rattle.std.proofs.Common.{sym, ◌∙◌, subst, arith, eq-eqb, take_at}
+use Rattle.std.specs.Prelude.{ℕ, ◌+◌, ◌≤◌, true, false, List, [], ◌∷◌, ◌≡◌, refl, ℤ, length, take, drop, replicate, Option, None, is_none}
+use Rattle.std.proofs.Common.{sym, ◌∙◌, subst, arith, take_at}
 use Rattle.std.proofs.Math.Path.{ap}
 use Rattle.tables.specs.Choice.{picked, not_yes}
 use Rattle.wire.specs.Bytes.{laid}
@@ -114,12 +114,12 @@ said_unrefused c h (e ∷ es) = (ap (λ (o : Outcome). o.refusal) (outcome_plays
 
 -- ---- from an accepted personalisation
 
-pub in_code : (s : Settings) (ks : Keys) (v : ℤ) (r : Reply) (es : List Event) (ss : List Said) (d : Card) → r ≡ reply_of (personalised s ks v) → r.refusal ≡ 0
+pub in_code : (s : Settings) (ks : Keys) (v : ℤ) (r : Reply) (es : List Event) (ss : List Said) (d : Card) → r ≡ reply_of (personalised s ks v) → r.refusal ≡ None
     → Ran d r.card es ss → InCode s ks v es ss d
 unfolding personalised bench reply_of
 in_code s ks v r es ss d q z ran =
     let t : Taken s v = sym (ap (λ (y : Reply). y.refusal) q) ∙ z in
-    let e : r.card ≡ issued s ks v = ap (λ (y : Reply). y.card) q ∙ picked _ _ (eq-eqb _ _ t) in
+    let e : r.card ≡ issued s ks v = ap (λ (y : Reply). y.card) q ∙ picked _ _ (ap is_none t) in
     let f = ran_follows ran (subst (λ (k : Card). Kept k) (sym e) (issued_kept s ks v t)) in
     let g = follows_from (issued s ks v) r.card es ss d e f in
     record { taken = t; card = g.0; replies = g.1; unrefused = subst (λ (x : List Said). Unrefused x) (sym g.1) (said_unrefused (issued s ks v) (issued_kept s ks v t) es) }

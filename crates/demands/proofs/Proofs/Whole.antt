@@ -1,5 +1,5 @@
 -- A chain that is delivered whole leaves and replies what a WriteData of the same bytes does.
-use Rattle.std.specs.Prelude.{ℕ, ◌+◌, ◌-◌, ◌≤◌, ◌<◌, ◌&&◌, List, [], ◌∷◌, ◌++◌, ◌≡◌, get_or, take}
+use Rattle.std.specs.Prelude.{ℕ, ◌+◌, ◌-◌, ◌≤◌, ◌<◌, ◌&&◌, List, [], ◌∷◌, ◌++◌, ◌≡◌, get_or, take, None}
 use Rattle.std.proofs.Math.Bool.{true, false, not}
 use Rattle.std.proofs.Math.Path.{refl, sym, ap}
 use Rattle.std.proofs.Common.{subst, ◌∙◌, arith, length-take-le, get_or-take}
@@ -189,8 +189,8 @@ module _ (c : Card) (h : Kept c) (f : List ℕ) (ei : ins_of f ≡ write_data) (
       let q = opening_sent.field in
       rw (q, same_role d s c.settings, same_offset d s, same_length d s) refl
 
-  opened : outcome c (opens g) ≡ record { card = chain_on c k; refusal = 0; stored = 0; out = [] }
-  opened = opens_card c h g opening_accepted ∙ ap (λ (x : Chain). record { card = chain_on c x; refusal = 0; stored = 0; out = [] }) announces
+  opened : outcome c (opens g) ≡ record { card = chain_on c k; refusal = None; stored = 0; out = [] }
+  opened = opens_card c h g opening_accepted ∙ ap (λ (x : Chain). record { card = chain_on c x; refusal = None; stored = 0; out = [] }) announces
 
   opened_card : next c (opens g) ≡ chain_on c k
   opened_card = ap (λ (o : Outcome). o.card) opened
@@ -201,7 +201,7 @@ module _ (c : Card) (h : Kept c) (f : List ℕ) (ei : ins_of f ≡ write_data) (
 
   module _ (u : Inputs) where
     -- what the WriteData leaves
-    single : sends c f u ≡ record { card = given (chain_on c k) (bytes_in d); refusal = 0; stored = 0; out = word ok }
+    single : sends c f u ≡ record { card = given (chain_on c k) (bytes_in d); refusal = None; stored = 0; out = word ok }
     single = sym (command_plays c f u reply_room (omega arith) h.rules) ∙ sym (plays_accepted c f u e) ∙ ap (laid_into c) as_write ∙ left_behind
       where
         as_write : accepted (view c) u (ins_of f) d ≡ accepted_plain false (view c) u write_data r d
@@ -213,7 +213,7 @@ module _ (c : Card) (h : Kept c) (f : List ℕ) (ei : ins_of f ≡ write_data) (
         whole_long : length_of d ≡ length (bytes_in d)
         whole_long = let l = length_part d 7 (length d) (omega arith) in omega (arith, l, field_long.0)
 
-        left_behind : laid_into c (accepted_plain false (view c) u write_data r d) ≡ record { card = given (chain_on c k) (bytes_in d); refusal = 0; stored = 0; out = word ok }
+        left_behind : laid_into c (accepted_plain false (view c) u write_data r d) ≡ record { card = given (chain_on c k) (bytes_in d); refusal = None; stored = 0; out = word ok }
         left_behind = unfold laid_into accepted_plain mac_behind shown shown_of accepted_status changed channel_after purse_after journal_after stored_after files_after put view given chain_on chained pick in
             λ i. record {
               card = record {
@@ -224,7 +224,7 @@ module _ (c : Card) (h : Kept c) (f : List ℕ) (ei : ins_of f ≡ write_data) (
                 log = logfile.put_view c.log i;
                 channel = sym (advanced_all c.channel k (length (bytes_in d)) free whole_long) i;
               };
-              refusal = 0;
+              refusal = None;
               stored = 0;
               out = word ok;
             }

@@ -21,12 +21,13 @@ returns-in-Unread c =
 pub returns-in-Number : goal.returns-in-Number
 unfolding notice_text
 returns-in-Number c =
-    shows_as _ _ _ _ _ (room_yes (length c.args.text.now) (numbered c.in-Number.n) (omega (arith, length_numbered c.in-Number.n)) ∙ sym (ap (λ a. notice_text a c.args.purse c.args.log c.args.stage c.args.chain) c.in-Number.is)) c.put_number.ensures
+    let n = c.number_of.result in
+    shows_as _ _ _ _ _ (room_yes (length c.args.text.now) (numbered n) (omega (arith, length_numbered n)) ∙ ap numbered c.number_of.ensures ∙ sym (ap (λ a. notice_text a c.args.purse c.args.log c.args.stage c.args.chain) c.in-Number.is)) c.put_number.ensures
 
 pub returns-in-Refusal : goal.returns-in-Refusal
 unfolding notice_text
 returns-in-Refusal c =
-    shows_as _ _ _ _ _ (room_yes (length c.args.text.now) (refusal_text c.in-Refusal.n) (omega (arith, length_refusal c.in-Refusal.n)) ∙ sym (ap (λ a. notice_text a c.args.purse c.args.log c.args.stage c.args.chain) c.in-Refusal.is)) c.put_number_but_0.ensures
+    shows_as _ _ _ _ _ (room_yes (length c.args.text.now) (refusal_text c.in-Refusal.refusal) (omega (arith, length_refusal c.in-Refusal.refusal)) ∙ sym (ap (λ a. notice_text a c.args.purse c.args.log c.args.stage c.args.chain) c.in-Refusal.is)) c.put_refusal.ensures
 
 pub returns-in-Status : goal.returns-in-Status
 unfolding notice_text

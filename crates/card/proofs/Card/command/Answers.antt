@@ -3,7 +3,7 @@ use Rattle.logfile.specs.declared.Stored.{Stored}
 use Rattle.card.specs.declared.Card.{Card}
 use Rattle.card.specs.Events.{reply_room}
 use Rattle.card.specs.Accepted.{Granted}
-use Rattle.card.proofs.Laws.{bench_answers, answered_as, no_bench, command_bench, command_refused, command_granted, command_accepts, command_part, command_quiet, begins_plain, opens_plain, opens_long, moved, wrote, write_stores_none}
+use Rattle.card.proofs.Laws.{bench_answers, answered_by, answered_as, no_bench, command_bench, command_refused, command_granted, command_accepts, command_part, command_quiet, begins_plain, opens_plain, opens_long, moved, wrote, write_stores_none}
 use Rattle.card.specs.Sealing.{Sealed, sealed_plain}
 use Rattle.checks.specs.declared.Admitted.{Admitted}
 use Rattle.checks.proofs.Order.{word_not_ok}
@@ -21,13 +21,9 @@ use mathlib.Core.List.{List}
 use mathlib.Core.Path.{◌≡◌, sym, ap, ◌∙◌}
 use native.Mathlib.Omega.{arith}
 use Rattle.card.proofs.Card.command.Goals as goal
-use Rattle.card.proofs.Card.command.Goals.{Else-bench-ne0, After-plain-d, Joined-maced, then-maced, else-maced}
+use Rattle.card.proofs.Card.command.Goals.{After-plain-d, Joined-maced, then-maced, else-maced}
 
--- there is no bench refusal
-unbenched : (k : Else-bench-ne0) → (reply_room ≤ length k.args.reply.now) × (broken k.args.self ≡ false)
-unbenched k = no_bench k.args.self _ k.bench_refusal-bench.ensures k.if-bench-ne0.false
-
--- what the code knows where no reason of the table applies either
+-- what the code knows where there is no bench refusal, and no reason of the table applies
 module _ (p : After-plain-d) where
   abbrev card : Card
   card = p.args.self
@@ -42,7 +38,7 @@ module _ (p : After-plain-d) where
   buffer = p.args.reply.now
 
   unrefused : (reply_room ≤ length buffer) × (broken card ≡ false)
-  unrefused = no_bench card (length buffer) p.bench_refusal-bench.ensures p.if-bench-ne0.false
+  unrefused = no_bench card (length buffer) p.in_default.ensures
 
   room : reply_room ≤ length buffer
   room = unrefused.0
@@ -68,7 +64,7 @@ module _ (p : After-plain-d) where
 -- what is laid behind no data
 module _ (j : Joined-maced) where
   space : reply_room ≤ length j.args.reply.now
-  space = (no_bench j.args.self _ j.bench_refusal-bench.ensures j.if-bench-ne0.false).0
+  space = (no_bench j.args.self _ j.in_default.ensures).0
 
   sealed : Sealed j.counted-next.result j.in-Ok.admitted.maced 0 j.args.reply.now j.if-maced.reply j.if-maced.len
   sealed =
@@ -84,19 +80,19 @@ module _ (j : Joined-maced) where
         | else-maced w ↦ ap length w.reply-is ∙ w.close-len.auto.reply
       ]
 
-pub returns-then-bench-ne0 : goal.returns-then-bench-ne0
-returns-then-bench-ne0 c =
+pub returns-in-Some : goal.returns-in-Some
+returns-in-Some c =
     let a = c.args in
-    answered_as _ _ _ _ _ (command_bench a.self a.frame.now a.inputs _ c.bench_refusal-bench.ensures c.if-bench-ne0.true) (bench_answers a.self _ a.reply.now)
+    answered_by _ _ _ c.refused.ensures (answered_as _ _ _ _ _ (command_bench a.self a.frame.now a.inputs _ c.in-Some.ensures) (bench_answers a.self _ a.reply.now))
 
 pub refuse-requires : goal.refuse-requires
-refuse-requires c = (unbenched (goal.at.refuse-requires c).Else-bench-ne0).0
+refuse-requires c = (no_bench c.args.self _ c.in_default.ensures).0
 
 pub returns-in-Err : goal.returns-in-Err
 unfolding view
 returns-in-Err c =
     let a = c.args in
-    let u = unbenched (goal.at.returns-in-Err c).Else-bench-ne0 in
+    let u = no_bench a.self _ c.in_default.ensures in
     command_refused a.self a.frame.now a.inputs a.reply.now u.0 u.1 _ c.in-Err.ensures.status (word_not_ok _) c.refuse.ensures
 
 pub begun-requires : goal.begun-requires
@@ -141,7 +137,8 @@ pub returns-then-ins-2 : goal.returns-then-ins-2
 returns-then-ins-2 c =
     let p = (goal.at.returns-then-ins-2 c).After-plain-d in
     let w = wrote (card p) (inputs p) _ _ c.plain-d.result.now _ c.if-ins-2.true c.next_files.ensures c.counted-next.ensures in
-    command_quiet (card p) (frame p) (inputs p) (buffer p) (room p) (sound p) (taken p) (maced p) (role p) c.byte_at-ins.ensures c.data.ensures c.plain-d.ensures (ne_eqb _ _ c.if-ins-eq-AUTHENTICATE_FIRST.false) (ne_eqb _ _ c.if-ins.false) (sym c.shows.ensures ∙ c.if-shows.false) (write_stores_none (card p) c.if-ins-2.true) w c.counted-next.ensures (sealed (goal.at.returns-then-ins-2 c).Joined-maced)
+    answered_by _ _ _ c.sent.ensures
+    (command_quiet (card p) (frame p) (inputs p) (buffer p) (room p) (sound p) (taken p) (maced p) (role p) c.byte_at-ins.ensures c.data.ensures c.plain-d.ensures (ne_eqb _ _ c.if-ins-eq-AUTHENTICATE_FIRST.false) (ne_eqb _ _ c.if-ins.false) (sym c.shows.ensures ∙ c.if-shows.false) (write_stores_none (card p) c.if-ins-2.true) w c.counted-next.ensures (sealed (goal.at.returns-then-ins-2 c).Joined-maced))
 
 pub shape_of-reply : goal.shape_of-reply
 shape_of-reply c = as_long (goal.at.shape_of-reply c).Joined-maced

@@ -5,13 +5,13 @@ use Rattle.card.specs.Events.{issued}
 use mir.Facts.{to_z-of_z}
 use Rattle.card.proofs.Card.personalise.Goals as goal
 
-pub returns-then-refusal-ne0 : goal.returns-then-refusal-ne0
-returns-then-refusal-ne0 c =
+pub returns-in-Some : goal.returns-in-Some
+returns-in-Some c =
     let a = c.args in
-    order_refused a.settings a.keys a.value _ _ (c.refusal-refusal.ensures ∙ ap (order_refusal a.settings) (to_z-of_z c.ranges.value)) c.if-refusal-ne0.true c.blank.ensures
+    c.refused.ensures ∙ order_refused a.settings a.keys a.value _ (c.in-Some.ensures ∙ ap (order_refusal a.settings) (to_z-of_z c.ranges.value)) c.blank.ensures
 
-pub returns : goal.returns
-returns c =
+pub returns-in-None : goal.returns-in-None
+returns-in-None c =
     let a = c.args in
     let f = to_z-of_z c.ranges.value in
-    order_taken a.settings a.keys a.value _ _ (c.refusal-refusal.ensures ∙ ap (order_refusal a.settings) f) c.if-refusal-ne0.false (c.issued.ensures ∙ ap (issued a.settings a.keys) f)
+    c.sent.ensures ∙ order_taken a.settings a.keys a.value _ (c.in-None.ensures ∙ ap (order_refusal a.settings) f) (c.issued.ensures ∙ ap (issued a.settings a.keys) f)

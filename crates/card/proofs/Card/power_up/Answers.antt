@@ -3,7 +3,7 @@ use mathlib.Core.Path.{sym, ◌∙◌}
 use Rattle.card.proofs.Card.power_up.Goals as goal
 
 pub returns-then-breaks : goal.returns-then-breaks
-returns-then-breaks c = power_broken c.args.self (sym c.breaks.ensures ∙ c.if-breaks.true)
+returns-then-breaks c = c.refused.ensures ∙ power_broken c.args.self (sym c.if-breaks.ensures)
 
 pub returns : goal.returns
-returns c = power_ends c.args.self _ c.ended-card.ensures (sym c.breaks.ensures ∙ c.if-breaks.false)
+returns c = c.sent.ensures ∙ power_ends c.args.self _ c.ended.ensures (sym c.if-breaks.ensures)

@@ -1,4 +1,4 @@
-use Rattle.card.proofs.Laws.{accepted_shows, shown_answers}
+use Rattle.card.proofs.Laws.{answered_by, accepted_shows, shown_answers}
 use Rattle.card.specs.View.{view, on_channel}
 use Rattle.card.specs.Accepted.{base_shown}
 use Rattle.wire.specs.Bytes.{Shows}
@@ -34,5 +34,5 @@ pub returns : goal.returns
 returns c =
     let a = c.args in
     let l = laid_first (goal.at.returns c).Start _ _ c.show-n.ensures in
-    shown_answers a.self a.maced a.inputs a.ins a.role a.d.now a.reply.now c.requires.0 (c.on_channel-card.ensures ∙ ap (on_channel a.self) c.counted-next.ensures) l.0
-    (rw c.counted-next.ensures at c.seal-len.ensures)
+    answered_by _ _ _ c.sent.ensures (shown_answers a.self a.maced a.inputs a.ins a.role a.d.now a.reply.now c.requires.0 (c.on_channel-card.ensures ∙ ap (on_channel a.self) c.counted-next.ensures) l.0
+    (rw c.counted-next.ensures at c.seal-len.ensures))

@@ -2,6 +2,7 @@ use Rattle.notices.specs.Notices.{notice_text}
 use Rattle.told.specs.Told.{said_of, after_event}
 use Rattle.letters.specs.Letters.{counted}
 use Rattle.answers.specs.Answers.{numbered}
+use Rattle.refusals.specs.Numbers.{number_of}
 use Rattle.card.specs.declared.Reply.{Reply}
 use Rattle.card.specs.Outcome.{reply_of}
 use Rattle.card.specs.Events.{personalised}
@@ -21,4 +22,4 @@ returns c =
     let f : SFits w32 o.result.value = search rules in
     let v = ap (λ z. reply_of (personalised o.result.settings o.result.keys z)) (to_z-of_z f) in
     let e = c.personalise-made.ensures ∙ (v ∙ ap (λ (x : Order). reply_of (personalised x.settings x.keys x.value)) o.ensures) in
-    ap (λ (x : Reply). record { next = after_event k x.card x.stored; out = numbered x.refusal }) e
+    ap (λ (x : Reply). record { next = after_event k x.card x.stored; out = numbered (number_of x.refusal) }) e
