@@ -13,7 +13,8 @@ pub struct Purse {
     pub value: i32,
     pub allowance: u32,
     // The open transaction's: the pending value, what is left of the allowance, the sum of its Debits and whether it has
-    // one, and whether the file is pending.
+    // one, and whether the file is pending. No Option stands for a flag: the standing rules (`rules`) speak of a sum
+    // without a Debit, and of pending figures where the file is not pending.
     pub pending: i32,
     pub left: u32,
     pub debits: u32,
@@ -41,7 +42,8 @@ impl Purse {
         }
     }
 
-    // What Credit and LimitedCredit share: the pending value rises, with `left` left of the allowance.
+    // What Credit and LimitedCredit share: the pending value rises, with `left` left of the allowance. Where the limits hold the
+    // sum it does not saturate, here or in `debit`.
     fn raise(self, limits: Limits, amount: u32, left: u32) -> Purse
         ensures { result ≡ raise_in limits self amount left }
     {
