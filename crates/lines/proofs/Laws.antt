@@ -1,12 +1,15 @@
 -- Laws of the first line of a text, of a line put where there is room, and of how far a run comes.
-use Rattle.std.specs.Prelude.{ℕ, suc, ◌+◌, ◌-◌, ◌*◌, ◌≤◌, ◌<◌, Bool, true, not, ◌&&◌, ◌≡◌, refl, eqb, leb, ltb, length, drop, get_or}
+use Rattle.std.specs.Prelude.{ℕ, zero, suc, ◌+◌, ◌-◌, ◌*◌, ◌≤◌, ◌<◌, Bool, true, ◌≡◌, refl, eqb, leb, ltb, length, drop, get_or}
 use Rattle.std.proofs.Math.Bool.{false}
+use Rattle.std.specs.Prelude.{Option, Some, None}
+use Rattle.std.specs.Option.{unwrap_or}
+use Rattle.memchr.specs.Find.{IsFirstByte, is_byte}
 use mathlib.Core.List.{List, [], ◌∷◌, ◌++◌, append-nil, append_assoc}
 use Rattle.std.proofs.Math.Path.{sym, ap}
-use Rattle.std.proofs.Common.{◌∙◌, length-append, length-drop, drop_of_length-le, drop-cons, drop-drop, take_all, add-zero, arith}
-use borrow.Author.Tests.{eq-eqb, ne_eqb, eqb-true, eqb-false, not-true, leb-true, leb-false, ltb-true, ltb-false, lt-ltb, le-ltb}
+use Rattle.std.proofs.Common.{◌∙◌, length-append, length-drop, drop_of_length-le, drop-drop, take_all, add-zero, arith}
+use borrow.Author.Tests.{eq-eqb, ne_eqb, eqb-true, leb-true, leb-false, ltb-true, ltb-false, lt-ltb, le-ltb}
 use Rattle.std.proofs.Math.ListN.{take}
-use Rattle.tables.specs.Choice.{pick, picked, passed, pick_cases, and_yes}
+use Rattle.tables.specs.Choice.{pick, picked, passed, pick_cases}
 use Rattle.wire.specs.Bytes.{part, laid, laid_in, Shows}
 use Rattle.wire.proofs.Laws.{length_laid, shows_there}
 use Rattle.text.specs.Hex.{is_hex, spelt, leading}
@@ -18,32 +21,26 @@ use Rattle.lines.specs.Laws.{Ends, Lines, Within}
 
 -- ---- the first line
 
--- character by character from place i on
-module _ (t : List ℕ) (i : ℕ) where
-  pub length_end : i < length t → get_or t i 0 ≡ 0x0A → line_length (drop i t) ≡ 0
-  unfolding line_length
-  length_end h e = rw (drop-cons t i 0 h) (picked _ _ (eq-eqb _ _ e))
+-- past the end
+pub length_none : (t : List ℕ) (i : ℕ) → length t ≤ i → line_length (drop i t) ≡ 0
+unfolding line_length
+length_none t i h = rw (drop_of_length-le t {i = i} h)
 
-  pub length_on : i < length t → (get_or t i 0 ≡ 0x0A → ⊥) → line_length (drop i t) ≡ suc (line_length (drop (suc i) t))
-  unfolding line_length
-  length_on h n = rw (drop-cons t i 0 h) (passed _ _ (ne_eqb _ _ n))
+-- the place of the first LF, or the length where there is none
+pub length_first : (s : List ℕ) (n : ℕ) → n ≤ length s → ((k : ℕ) → k < n → get_or s k 0 ≡ 0x0A → ⊥) → (n < length s → get_or s n 0 ≡ 0x0A) → line_length s ≡ n
+unfolding line_length
+length_first [] n h before at = omega (arith, h)
+length_first (c ∷ cs) zero h before at = picked _ _ (eq-eqb c 0x0A (at (omega arith)))
+length_first (c ∷ cs) (suc n) h before at =
+    passed _ _ (ne_eqb c 0x0A (before 0 (omega arith)))
+    ∙ ap suc (length_first cs n (omega (arith, h)) (λ k q. before (suc k) (omega (arith, q))) (λ q. at (omega (arith, q))))
 
-  pub length_none : length t ≤ i → line_length (drop i t) ≡ 0
-  unfolding line_length
-  length_none h = rw (drop_of_length-le t {i = i} h)
-
--- two characters at once
-module _ (t : List ℕ) where
-  on : (i : ℕ) → i < length t → not (eqb (get_or t i 0) 0x0A) ≡ true → line_length (drop i t) ≡ line_length (drop (i + 1) t) + 1
-  on i h f =
-      let n : suc i ≡ i + 1 = omega arith in
-      omega (arith, length_on t i h (eqb-false _ _ (not-true _ f)), ap (λ (k : ℕ). line_length (drop k t)) n)
-
-  pub two_on : (i : ℕ) → i + 2 ≤ length t → (not (eqb (get_or t i 0) 0x0A) && not (eqb (get_or t (i + 1) 0) 0x0A)) ≡ true → line_length (drop i t) ≡ line_length (drop (i + 2) t) + 2
-  two_on i h f =
-      let a = and_yes (not (eqb (get_or t i 0) 0x0A)) _ f in
-      let n : i + 1 + 1 ≡ i + 2 = omega arith in
-      omega (arith, on i (omega arith) a.0, on (i + 1) (omega arith) a.1, ap (λ (k : ℕ). line_length (drop k t)) n)
+-- where a search for LF finds it, or else the length
+pub length_searched : (s : List ℕ) (found : Option ℕ) → IsFirstByte (is_byte 0x0A) s found → line_length s ≡ unwrap_or found (length s)
+length_searched s (Some n) f =
+    length_first s n (omega (arith, f.0.high)) (λ k q e. f.0.before k (omega arith) q (eq-eqb _ _ e)) (λ q. eqb-true _ _ f.1)
+length_searched s None f =
+    length_first s (length s) (omega arith) (λ k q e. f k (omega arith) q (eq-eqb _ _ e)) (λ q. absurd (omega (arith, q)))
 
 pub length_most : (s : List ℕ) → line_length s ≤ length s
 unfolding line_length

@@ -3,11 +3,7 @@ use Rattle.std.specs.Prelude.{ℕ, ◌+◌, ◌≤◌, ◌≡◌, ltb, length, d
 use mathlib.Core.List.{List, [], ◌∷◌}
 use Rattle.tables.specs.Choice.{pick}
 use Rattle.wire.specs.Bytes.{part}
-use Rattle.lines.specs.Lines.{line_length, lines_after, Gone}
-
--- r is a place of the same line, or its end
-abbrev pub Nears : List ℕ → ℕ → ℕ → Type 0
-Nears t at r = (at ≤ r) × (at + line_length (drop at t) ≡ r + line_length (drop r t))
+use Rattle.lines.specs.Lines.{lines_after, Gone}
 
 -- the lines of a text from place at on: none where no LF follows, else the one up to place e, and those behind it
 abbrev pub Lines : List ℕ → ℕ → ℕ → Type 0

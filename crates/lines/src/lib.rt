@@ -6,7 +6,6 @@ ghost use Rattle.wire.specs.Bytes.{laid};
 ghost use Rattle.text.specs.Shown.{in_room, Adds};
 ghost use Rattle.lines.specs.Lines.{line_length, lines_after, Said, went, Goes};
 ghost use Rattle.lines.specs.Frames.{frame_in, is_chained, tried, Found};
-ghost use Rattle.lines.specs.Laws.{Nears};
 
 // The most bytes of a frame, and the most characters of a line that is read.
 pub const LONGEST_FRAME: usize = 512;
@@ -33,44 +32,15 @@ pub trait Player {
         ensures { Goes (went said state (lines_after [] text.now) (length out.old)) out.old out.new result.state result.read result.written };
 }
 
-// Whether none of the two characters from place i on is LF.
-fn two_more(text: &[u8], i: usize) -> bool
-    requires { i + 2 ≤ length text.now }
-    ensures { result ≡ true → line_length (drop i text.now) ≡ line_length (drop (i + 2) text.now) + 2 }
-{
-    (text[i] != b'\n') & (text[i + 1] != b'\n')
-}
-
-// A place near the end of the line that stands at place at, looked for two characters at a time.
-fn near_end(text: &[u8], at: usize) -> usize
-    ensures { Nears text.now at result }
-{
-    let n = text.len();
-    if n < 2 {
-        return at;
-    }
-    let mut i = at;
-    while i <= n - 2 {
-        if !two_more(text, i) {
-            return i;
-        }
-        i += 2;
-    }
-    i
-}
-
 // The place of the first LF from at on, or where the text ends.
 pub fn line_end(text: &[u8], at: usize) -> usize
     ensures { result ≡ at + line_length (drop at text.now) }
 {
-    let mut i = near_end(text, at);
-    while i < text.len() {
-        if text[i] == b'\n' {
-            return i;
-        }
-        i += 1;
+    if text.len() <= at {
+        return at;
     }
-    i
+    let rest = &text[at..];
+    at + memchr::memchr(b'\n', rest).unwrap_or(rest.len())
 }
 
 // Whether the line at place at begins as one of a chain and has an odd number of characters. It is no frame then, and its digits,
@@ -104,15 +74,13 @@ pub fn spell_frame(text: &[u8], at: usize, bytes: &mut [u8; LONGEST_FRAME]) -> O
     None
 }
 
-// Puts a line and its LF from place at of out on, and answers the place behind; nothing and at where there is no room.
+// Puts a line and its LF from place at of out on, and answers the place behind; nothing and at where there is no room. That is no
+// Option, since one law says both, and so of all that puts text (`Adds`): what was added, and that its length leads to the place.
 pub fn put(line: &[u8], at: usize, out: &mut [u8]) -> usize
     ensures { Adds (in_room (length out.old - at) (line.now ++ 0x0A ∷ [])) out.old at out.new result }
 {
     let len = line.len();
-    if out.len() <= at {
-        return at;
-    }
-    if out.len() - at <= len {
+    if out.len().saturating_sub(at) <= len {
         return at;
     }
     wire::lay(out, at, line);

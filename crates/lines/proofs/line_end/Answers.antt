@@ -1,19 +1,27 @@
-use Rattle.lines.proofs.Laws.{length_end, length_on, length_none}
-use Prim.Native.Nat.{◌+◌}
-use mathlib.Core.Path.{sym, ap, ◌∙◌}
+use Rattle.lines.specs.Lines.{line_length}
+use Rattle.lines.proofs.Laws.{length_none, length_most, length_searched}
+use Prim.Native.Nat.{◌+◌, ◌-◌}
+use lib.ListN.{length, drop, length-drop}
+use lib.Seq.{take_all}
+use mathlib.Core.Path.{◌≡◌, sym, ap, ◌∙◌}
 use native.Mathlib.Nat.{add-zero}
-use native.Mathlib.Numerals.{add-one}
 use native.Mathlib.Omega.{arith}
 use Rattle.lines.proofs.line_end.Goals as goal
+use Rattle.lines.proofs.line_end.Goals.{After-unwrap_or}
 
-pub loop-i-init : goal.loop-i-init
-loop-i-init c = c.near_end-i.ensures
+searched : (k : After-unwrap_or) → k.unwrap_or.result ≡ line_length (drop k.args.at k.args.text.now)
+searched k =
+    let l = length-drop k.args.at k.args.text.now in
+    k.unwrap_or.ensures
+    ∙ (sym (length_searched _ _ k.memchr.ensures) ∙ ap line_length (take_all (length k.args.text.now - k.args.at) (drop k.args.at k.args.text.now) (omega arith)))
 
-pub returns-then-text-i-eq10 : goal.returns-then-text-i-eq10
-returns-then-text-i-eq10 c = let v = c.loop-i in let e = length_end c.args.text.now v.i c.loop-i-test.true c.if-text-i-eq10.true in sym (v.invariant.1 ∙ (ap (λ n. v.i + n) e ∙ add-zero v.i))
+pub returns-then-text-at : goal.returns-then-text-at
+returns-then-text-at c = let a = c.args in sym (ap (λ n. a.at + n) (length_none a.text.now a.at c.if-text-at.true) ∙ add-zero a.at)
 
-pub loop-i-preserved : goal.loop-i-preserved
-loop-i-preserved c = let v = c.loop-i in let e = length_on c.args.text.now v.i c.loop-i-test.true c.if-text-i-eq10.false in (omega arith, v.invariant.1 ∙ rw (e, add-one) (omega arith))
+pub overflow_add-result : goal.overflow_add-result
+overflow_add-result c =
+    let a = c.args in
+    record { fits = omega (arith, searched c, length_most (drop a.at a.text.now), length-drop a.at a.text.now, c.well_formed) }
 
 pub returns : goal.returns
-returns c = let v = c.loop-i in let e = length_none c.args.text.now v.i c.loop-i-test.false in sym (v.invariant.1 ∙ (ap (λ n. v.i + n) e ∙ add-zero v.i))
+returns c = ap (λ n. c.args.at + n) (searched c)
