@@ -27,6 +27,7 @@ pub fn cipher(w: [[u8; 16]; 11], b: [u8; 16]) -> [u8; 16]
     field::add_blocks(steps::sub_shift(&t, s), w[10])
 }
 
+// Not one function with `round`: the key is added before the columns are mixed, and figure 12 takes the round keys backwards.
 fn inv_round(t: &[u8; 256], s: [u8; 16], k: [u8; 16]) -> [u8; 16]
     requires { t.now ≡ table inv_sbox }
     ensures { result ≡ inv_round s k }

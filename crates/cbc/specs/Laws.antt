@@ -35,14 +35,14 @@ blocks_of n x h = let e : length x ≡ 16 * n = h.long in omega arith
 
 -- ---- whatever the text, so many blocks come out as it has
 
-length_encrypted_from : (w : List (List ℕ)) (n : ℕ) (c x : List ℕ) → length (encrypted_from w c n x) ≡ 16 * n
+pub length_encrypted_from : (w : List (List ℕ)) (n : ℕ) (c x : List ℕ) → length (encrypted_from w c n x) ≡ 16 * n
 length_encrypted_from w zero c x = refl
 length_encrypted_from w (suc n) c x =
     let e = cipher w (take 16 x ⊞ c) in
     let l = length-append e (encrypted_from w e n (drop 16 x)) in
     omega (arith, l, length_cipher w (take 16 x ⊞ c), length_encrypted_from w n e (drop 16 x))
 
-length_decrypted_from : (w : List (List ℕ)) (n : ℕ) (c x : List ℕ) → length (decrypted_from w c n x) ≡ 16 * n
+pub length_decrypted_from : (w : List (List ℕ)) (n : ℕ) (c x : List ℕ) → length (decrypted_from w c n x) ≡ 16 * n
 length_decrypted_from w zero c x = refl
 length_decrypted_from w (suc n) c x =
     let d = inv_cipher w (take 16 x) ⊞ c in

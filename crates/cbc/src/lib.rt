@@ -1,61 +1,47 @@
-// CBC with AES-128 from a block of zeros, without padding, over one block and over two.
+// CBC with AES-128 from a block of zeros, without padding, over whole blocks: what is behind the last stays as it is.
 #![tactic(auto)]
 
-ghost use Rattle.std.specs.Prelude.{◌≡◌, ◌++◌, take, drop};
+ghost use Rattle.std.specs.Prelude.{◌≡◌, ◌+◌, ◌*◌, ◌/◌, ◌%◌, ◌≤◌, ◌++◌, length, take, drop};
 ghost use Rattle.cbc.specs.Cbc.{encrypted, decrypted};
 
-fn first(x: [u8; 32]) -> [u8; 16]
-    ensures { result ≡ take 16 x }
+// The block from a place on.
+fn block_at(x: &[u8], at: usize) -> [u8; 16]
+    requires { at + 16 ≤ length x.now }
+    ensures { result ≡ take 16 (drop at x.now) }
 {
-    let mut r = [0; 16];
-    wire::lay(&mut r, 0, &x[0..16]);
-    r
+    std::array::from_fn(|i| x[at + i])
 }
 
-fn second(x: [u8; 32]) -> [u8; 16]
-    ensures { result ≡ drop 16 x }
-{
-    let mut r = [0; 16];
-    wire::lay(&mut r, 0, &x[16..32]);
-    r
-}
-
-fn joined(a: [u8; 16], b: [u8; 16]) -> [u8; 32]
-    ensures { result ≡ a ++ b }
-{
-    let mut r = [0; 32];
-    wire::lay(&mut r, 0, &a);
-    wire::lay(&mut r, 16, &b);
-    r
-}
-
-pub fn encrypt_one(key: [u8; 16], x: [u8; 16]) -> [u8; 16]
-    ensures { result ≡ encrypted key x }
-{
-    aes::cipher(schedule::key_expansion(key), field::add_blocks(x, [0; 16]))
-}
-
-pub fn decrypt_one(key: [u8; 16], x: [u8; 16]) -> [u8; 16]
-    ensures { result ≡ decrypted key x }
-{
-    field::add_blocks(aes::inv_cipher(schedule::key_expansion(key), x), [0; 16])
-}
-
-pub fn encrypt_two(key: [u8; 16], x: [u8; 32]) -> [u8; 32]
-    ensures { result ≡ encrypted key x }
+pub fn encrypt<const N: usize>(key: [u8; 16], x: [u8; N]) -> [u8; N]
+    ensures all { result ≡ encrypted key x.entry ++ drop (16 * (N / 16)) x.entry }
+    ensures whole { N % 16 ≡ 0 → result ≡ encrypted key x.entry }
 {
     let w = schedule::key_expansion(key);
-    let a = aes::cipher(w, field::add_blocks(first(x), [0; 16]));
-    let b = aes::cipher(w, field::add_blocks(second(x), a));
-    joined(a, b)
+    let mut r = x;
+    let mut last = [0; 16];
+    for i in 0..N / 16 {
+        let at = 16 * i;
+        let block = block_at(&x, at);
+        let sealed = aes::cipher(w, field::add_blocks(block, last));
+        wire::lay(&mut r, at, &sealed);
+        last = sealed;
+    }
+    r
 }
 
-pub fn decrypt_two(key: [u8; 16], x: [u8; 32]) -> [u8; 32]
-    ensures { result ≡ decrypted key x }
+pub fn decrypt<const N: usize>(key: [u8; 16], x: [u8; N]) -> [u8; N]
+    ensures all { result ≡ decrypted key x.entry ++ drop (16 * (N / 16)) x.entry }
+    ensures whole { N % 16 ≡ 0 → result ≡ decrypted key x.entry }
 {
     let w = schedule::key_expansion(key);
-    let a = first(x);
-    let p = field::add_blocks(aes::inv_cipher(w, a), [0; 16]);
-    let q = field::add_blocks(aes::inv_cipher(w, second(x)), a);
-    joined(p, q)
+    let mut r = x;
+    let mut before = [0; 16];
+    for i in 0..N / 16 {
+        let at = 16 * i;
+        let sealed = block_at(&x, at);
+        let plain = field::add_blocks(aes::inv_cipher(w, sealed), before);
+        wire::lay(&mut r, at, &plain);
+        before = sealed;
+    }
+    r
 }

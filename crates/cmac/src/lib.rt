@@ -6,7 +6,8 @@ ghost use Rattle.field.specs.Field.{only_if};
 ghost use Rattle.cmac.specs.Cmac.{doubled, first_subkey, second_subkey, subkey1, subkey2, cmac, truncated};
 ghost use Rattle.cmac.specs.Fed.{fed, closed};
 
-// The chain's block with the bytes of the present part added to it, and the number of these.
+// The chain's block with the bytes of the present part added to it, and the number of these. All sixteen bytes are the chain's,
+// so no shorter slice holds both.
 #[derive(Clone, Copy)]
 struct Held {
     block: [u8; 16],

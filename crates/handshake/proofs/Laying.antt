@@ -5,7 +5,7 @@ use mathlib.Core.List.{List, ◌++◌}
 use mathlib.Core.Path.{◌≡◌, refl, sym, ap, ◌∙◌}
 use borrow.Author.Tests.{eq-eqb}
 use lib.Dec.{eqb}
-use lib.ListN.{length, get_or, take, drop, set, replicate}
+use lib.ListN.{length, get_or, take, drop, replicate}
 use lib.Seq.{get_or-drop}
 use Rattle.tables.specs.Choice.{pick}
 use Rattle.wire.specs.Bytes.{part, laid, laid_in, same}
@@ -14,14 +14,13 @@ use Rattle.handshake.specs.Handshake.{rotated, caps_of, fails, second_reply}
 use Rattle.handshake.specs.Guarded.{pair_of, pair_whole, brought_in, reply_in}
 use Rattle.cbc.specs.Cbc.{encrypted, decrypted}
 
-pub rotates : (x : List ℕ) → length x ≡ 16 → set (laid_in (replicate 16 0) 0 (part x 1 16)) 15 (get_or x 0 0) ≡ rotated x
-unfolding laid_in laid pick rotated
-rotates = by_elements 16 (λ x. set (laid_in (replicate 16 0) 0 (part x 1 16)) 15 (get_or x 0 0) ≡ rotated x) (λ f. refl)
+pub rotates : (x : List ℕ) → length x ≡ 16 → drop 1 x ++ take 1 x ≡ rotated x
+unfolding rotated
+rotates = by_elements 16 (λ x. drop 1 x ++ take 1 x ≡ rotated x) (λ f. refl)
 
 -- the two blocks of a list of thirty-two
-pub first_laid : (x : List ℕ) → length x ≡ 32 → laid_in (replicate 16 0) 0 (part x 0 16) ≡ take 16 x
-unfolding laid_in laid pick
-first_laid = by_elements 32 (λ x. laid_in (replicate 16 0) 0 (part x 0 16) ≡ take 16 x) (λ f. refl)
+pub first_block : (x : List ℕ) → length x ≡ 32 → listed 16 (λ i. get_or x i 0) ≡ take 16 x
+first_block = by_elements 32 (λ x. listed 16 (λ i. get_or x i 0) ≡ take 16 x) (λ f. refl)
 
 pub second_block : (x : List ℕ) → length x ≡ 32 → part x 16 32 ≡ drop 16 x
 second_block = by_elements 32 (λ x. part x 16 32 ≡ drop 16 x) (λ f. refl)

@@ -5,7 +5,7 @@ ghost use Rattle.std.specs.Prelude.{◌≡◌, ◌&&◌, eqb, length};
 ghost use Rattle.handshake.specs.Handshake.{rotated, caps_of, first_reply, fails};
 ghost use Rattle.handshake.specs.Guarded.{pair_of, brought_in, key_in, reply_in};
 
-// The two blocks of a second part d.
+// The two blocks of a second part d. A longer d leaves them zeros, where copy_from_slice would ask for its length.
 fn pair(d: &[u8]) -> [u8; 32]
     ensures { result ≡ pair_of d.now }
 {
@@ -18,18 +18,15 @@ fn pair(d: &[u8]) -> [u8; 32]
 fn brought_a(k: [u8; 16], d: &[u8]) -> [u8; 16]
     ensures { result ≡ brought_in k d.now }
 {
-    let x = cbc::decrypt_two(k, pair(d));
-    let mut a = [0u8; 16];
-    wire::lay(&mut a, 0, &x[0..16]);
-    a
+    let x = cbc::decrypt(k, pair(d));
+    std::array::from_fn(|i| x[i])
 }
 
 fn rotate(x: [u8; 16]) -> [u8; 16]
     ensures { result ≡ rotated x }
 {
-    let mut r = [0u8; 16];
-    wire::lay(&mut r, 0, &x[1..16]);
-    r[15] = x[0];
+    let mut r = x;
+    r.rotate_left(1);
     r
 }
 
@@ -37,21 +34,14 @@ fn rotate(x: [u8; 16]) -> [u8; 16]
 pub fn caps(d: &[u8]) -> [u8; 6]
     ensures { result ≡ caps_of d.now }
 {
-    [
-        wire::byte_at(d, 2),
-        wire::byte_at(d, 3),
-        wire::byte_at(d, 4),
-        wire::byte_at(d, 5),
-        wire::byte_at(d, 6),
-        wire::byte_at(d, 7),
-    ]
+    std::array::from_fn(|i| wire::byte_at(d, 2 + i))
 }
 
 // The reply to the first part.
 pub fn first_reply(k: [u8; 16], b: [u8; 16]) -> [u8; 16]
     ensures { result ≡ first_reply k b }
 {
-    cbc::encrypt_one(k, b)
+    cbc::encrypt(k, b)
 }
 
 // Whether d has the length of a second part and does not bring RndB rotated.
@@ -61,7 +51,7 @@ pub fn is_failed(k: [u8; 16], b: [u8; 16], d: &[u8]) -> bool
     if d.len() != 32 {
         return false;
     }
-    let x = cbc::decrypt_two(k, pair(d));
+    let x = cbc::decrypt(k, pair(d));
     let turned = rotate(b);
     !wire::is_same(&x[16..32], &turned)
 }
@@ -82,5 +72,5 @@ pub fn second_reply(k: [u8; 16], ti: [u8; 4], caps: [u8; 6], d: &[u8]) -> [u8; 3
     wire::lay(&mut x, 0, &ti);
     wire::lay(&mut x, 4, &turned);
     wire::lay(&mut x, 26, &caps);
-    cbc::encrypt_two(k, x)
+    cbc::encrypt(k, x)
 }

@@ -19,7 +19,7 @@ pub fn second_part(k: [u8; 16], a: [u8; 16], b: [u8; 16]) -> [u8; 32]
     wire::lay(&mut x, 0, &a);
     wire::lay(&mut x, 16, &b[1..16]);
     x[31] = b[0];
-    cbc::encrypt_two(k, x)
+    cbc::encrypt(k, x)
 }
 
 // The second part's frame.

@@ -1,6 +1,6 @@
 use Rattle.handshake.proofs.Laying.{failed_by}
 use lib.ListN.{length}
-use mathlib.Core.Path.{◌≡◌, sym}
+use mathlib.Core.Path.{refl, ◌≡◌, sym}
 use Rattle.tables.specs.Choice.{and_left}
 use borrow.Author.Tests.{ne_eqb}
 use borrow.Author.Rules.{rules}
@@ -10,4 +10,4 @@ pub returns-then-d-ne32 : goal.returns-then-d-ne32
 returns-then-d-ne32 c = sym (and_left _ _ (ne_eqb (length c.args.d.now) 32 c.if-d-ne32.true))
 
 pub returns : goal.returns
-returns c = let lx : length c.decrypt_two-x.result ≡ 32 = search rules in failed_by c.args.k c.args.b c.args.d.now c.if-d-ne32.false lx c.pair.ensures c.decrypt_two-x.ensures c.rotate-turned.ensures c.is_same.ensures
+returns c = let lx : length c.decrypt-x.result ≡ 32 = search rules in failed_by c.args.k c.args.b c.args.d.now c.if-d-ne32.false lx c.pair.ensures (c.decrypt-x.ensures.whole refl) c.rotate-turned.ensures c.is_same.ensures
