@@ -1,18 +1,13 @@
 use Rattle.description.specs.Description.{described, described_in}
-use Rattle.roles.specs.Laws.{size_most}
 use Rattle.wire.proofs.Laws.{shows_as, shows_none, shows_then}
 use Rattle.tables.specs.Choice.{hit, skip}
 use borrow.Author.Tests.{lt-ltb, le-ltb}
-use native.Mathlib.Omega.{arith}
 use mathlib.Core.Path.{refl, sym, ◌∙◌}
 use Rattle.description.proofs.show.Goals as goal
 
 pub returns-then-reply-lt17 : goal.returns-then-reply-lt17
 unfolding described_in
 returns-then-reply-lt17 c = shows_as _ _ _ _ _ (hit _ _ _ (lt-ltb _ _ c.if-reply-lt17.true) refl) (shows_none c.args.reply.now)
-
-pub overflow_cast-size : goal.overflow_cast-size
-overflow_cast-size c = omega (arith, size_most c.args.role)
 
 pub returns-then-is_data : goal.returns-then-is_data
 unfolding described_in described

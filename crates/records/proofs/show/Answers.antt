@@ -1,7 +1,7 @@
 use lib.ListN.{length}
 use mathlib.Core.Path.{◌≡◌, sym, ◌∙◌}
 use borrow.Author.Rules.{rules}
-use Rattle.records.proofs.Reading.{inside, at_most, shows_in_no_room, shows_of_too_many, shows_outside, shows}
+use Rattle.records.proofs.Reading.{inside, shows_in_no_room, shows_of_too_many, shows_outside, shows}
 use Rattle.records.proofs.show.Goals as goal
 use Rattle.records.proofs.show.Goals.{Start}
 
@@ -21,10 +21,6 @@ returns-then-is_outside c =
 
 pub span-number-requires : goal.span-number-requires
 span-number-requires c = let a = c.args in inside a.log.count a.first a.count (sym c.is_outside.ensures ∙ c.if-is_outside.false)
-
-pub lay_entries-requires : goal.lay_entries-requires
-lay_entries-requires c =
-    (slots_length (goal.at.lay_entries-requires c).Start, at_most c.span-number.ensures.1 c.if-log-gt-MOST.false, c.if-reply-lt-SLOTS.false)
 
 pub returns : goal.returns
 returns c =
