@@ -21,7 +21,7 @@ impl Role {
 
     pub const SHORT: usize = 32;
 
-    // Its place in the order of the roles.
+    // Its place in the order of the roles, said for each: as a cast it would hang on where a variant stands.
     pub fn place(self) -> u8
         ensures { result ≡ place_of self }
     {

@@ -2,7 +2,7 @@
 #![tactic(auto)]
 
 ghost use Rattle.std.specs.Prelude.{◌≡◌};
-ghost use Rattle.settings.specs.Settings.{unchosen, absent, alike, file_at, role_of, named_by, nothing, access_by, rights_broken, number_above, number_twice};
+ghost use Rattle.settings.specs.Settings.{unchosen, absent, alike, file_at, role_of, named_by, nothing, access_by, files_of, rights_broken, number_above, number_twice};
 
 use access::Access;
 use columns::{Row, table};
@@ -163,24 +163,21 @@ impl Settings {
         )
     }
 
+    // The five files in the order of their roles.
+    fn files(self) -> [FileSettings; 5]
+        ensures { result ≡ files_of self }
+    {
+        [self.first, self.second, self.short, self.value, self.log]
+    }
+
     // Whether a rights nibble is 5 to Dh.
     #[tactic(auto, unfolding(crate::specs::Settings::rights_broken))]
     pub fn has_wrong_rights(self) -> bool
         ensures { result ≡ rights_broken self }
     {
-        if !access::rights_are_sound(self.first.rights) {
-            return true;
-        }
-        if !access::rights_are_sound(self.second.rights) {
-            return true;
-        }
-        if !access::rights_are_sound(self.short.rights) {
-            return true;
-        }
-        if !access::rights_are_sound(self.value.rights) {
-            return true;
-        }
-        !access::rights_are_sound(self.log.rights)
+        self.files()
+            .iter()
+            .any(|file| !access::rights_are_sound(file.rights))
     }
 
     // Whether a file's number is above 1Fh.
@@ -188,14 +185,12 @@ impl Settings {
     pub fn has_number_above(self) -> bool
         ensures { result ≡ number_above self }
     {
-        (FileSettings::LARGEST_NUMBER < self.first.number)
-            | (FileSettings::LARGEST_NUMBER < self.second.number)
-            | (FileSettings::LARGEST_NUMBER < self.short.number)
-            | (FileSettings::LARGEST_NUMBER < self.value.number)
-            | (FileSettings::LARGEST_NUMBER < self.log.number)
+        self.files()
+            .iter()
+            .any(|file| FileSettings::LARGEST_NUMBER < file.number)
     }
 
-    // Whether two files have the same number.
+    // Whether two files have the same number. The ten pairs stand as a list: two loops would say less, and ask each with a branch.
     #[tactic(auto, unfolding(crate::specs::Settings::number_twice))]
     pub fn has_number_twice(self) -> bool
         ensures { result ≡ number_twice self }
