@@ -20,12 +20,10 @@ pub fn serve<R: Input + Print, P: Player>(
     for _ in 0..u64::MAX {
         let end = block.end();
         let progress = player.play(state, &buf[at..end], &mut out);
+        rt.write_all(&out[..progress.written])?;
         state = progress.state;
-        let written = progress.written;
-        rt.write_all(&out[..written])?;
-        let read = progress.read;
-        if 0 < read {
-            at += read;
+        if 0 < progress.read {
+            at += progress.read;
             continue;
         }
         if let Block::Last(_) = block {

@@ -39,7 +39,8 @@ fn write_line(draft: Draft, line: &[u8], text: &mut [u8]) -> Step
     letters::put_lettered(draft, line, text)
 }
 
-// Writes the whole lines of a draft, as far as there is room in out.
+// Writes the whole lines of a draft, as far as there is room in out. A line is passed only when what it writes was put, so that
+// its place is no iterator's. The loop is not one with that of `script::run`, which would search for more ends and copy more cards.
 pub fn run(mut draft: Draft, text: &[u8], out: &mut [u8]) -> Progress<Draft>
     ensures { Goes (went drafted draft (lines_after [] text.now) (length out.old)) out.old out.new result.state result.read result.written }
 {

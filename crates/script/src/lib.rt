@@ -30,7 +30,8 @@ const MOST_ANSWER: usize = 2 * MOST_ROOM + 1;
 
 // Plays the whole lines of a text, as far as their answers fit out. The card of the run is the last reply's: a card is long, and
 // its way from a reply back to the desk would be one more copy of it in each turn. A desk that a command may have to leave as it
-// was, for want of room, gets its card before.
+// was, for want of room, gets its card before. A line is passed only when its answer was put, and a frame's end is known by its
+// digits: an iterator over lines would search for each end, and so the place goes on by hand.
 pub fn run(mut desk: Desk, text: &[u8], out: &mut [u8]) -> Progress<Desk>
     ensures { Goes (went line_said desk (lines_after [] text.now) (length out.old)) out.old out.new result.state result.read result.written }
 {

@@ -11,5 +11,5 @@ slice_bounds-write_all-end g c = let w = goes_within g.P.Player.said _ _ _ _ _ _
 pub overflow_add-at : goal.overflow_add-at
 overflow_add-at g c = let w = goes_within g.P.Player.said _ _ _ _ _ _ _ c.play-progress.ensures in search rules
 
-pub loop-preserved-then-read-gt0 : goal.loop-preserved-then-read-gt0
-loop-preserved-then-read-gt0 g c = let w = goes_within g.P.Player.said _ _ _ _ _ _ _ c.play-progress.ensures in search rules
+pub loop-preserved-then-progress-gt0 : goal.loop-preserved-then-progress-gt0
+loop-preserved-then-progress-gt0 g c = let w = goes_within g.P.Player.said _ _ _ _ _ _ _ c.play-progress.ensures in search rules
