@@ -9,14 +9,7 @@ ghost use Rattle.derivation.specs.Derivation.{xored, session_vector, mac_key};
 fn mixed(a: [u8; 16], b: [u8; 16]) -> [u8; 6]
     ensures { result ≡ xored (part a 2 8) (take 6 b) }
 {
-    [
-        a[2] ^ b[0],
-        a[3] ^ b[1],
-        a[4] ^ b[2],
-        a[5] ^ b[3],
-        a[6] ^ b[4],
-        a[7] ^ b[5],
-    ]
+    std::array::from_fn(|i| a[i + 2] ^ b[i])
 }
 
 fn session_vector(a: [u8; 16], b: [u8; 16]) -> [u8; 32]
