@@ -1,5 +1,5 @@
 -- The order of checks over what the code's tests answer, and that it is the rows'.
-use Rattle.std.specs.Prelude.{ℕ, Bool, true, ◌≡◌, Result, Err, IsErrAnd, not, eqb, length, drop}
+use Rattle.std.specs.Prelude.{ℕ, Bool, true, ◌≡◌, Result, Ok, Err, IsErrAnd, IfOk, not, eqb, length, drop}
 use Rattle.std.proofs.Math.Bool.{false}
 use mathlib.Core.List.{List, [], ◌∷◌}
 use Rattle.std.proofs.Math.Path.{refl, ap}
@@ -17,9 +17,11 @@ use Rattle.chains.specs.Chain.{wrong_bytes}
 use Rattle.commands.specs.declared.Places.{Places}
 use Rattle.commands.specs.Places.{places_under, places_of}
 use Rattle.rows.specs.State.{Core}
-use Rattle.rows.specs.Rows.{rows_for, ok, status_for, command_status, bytes_status}
+use Rattle.modes.specs.Modes.{role_in}
+use Rattle.rows.specs.Rows.{carries_mac, rows_for, ok, status_for, command_status, bytes_status}
 use Rattle.checks.specs.declared.Status.{Status}
 use Rattle.checks.specs.declared.Status.TheVariants.{WrongLength, WrongClass, WrongParameters, UnknownCommand, Aborted, DataLength, NoSuchFile, Denied, NotGranted, Integrity, BadParameter, Outside, NothingPending}
+use Rattle.checks.specs.declared.Admitted.{Admitted}
 use Rattle.checks.specs.Order.{word_of, told, command_order, frame_order, frame_part, in_order, admitted_of}
 
 -- no refusal's status is ok
@@ -89,6 +91,40 @@ module _ (o : Bool) (c : Core) (f : List ℕ) where
   pub admits : {i : ℕ} {d : List ℕ} {p : Places} → i ≡ ins_of f → d ≡ data_of f → p ≡ places_of o c i d → record { maced = p.maced; role = p.role } ≡ admitted_of o c f
   unfolding places_of places_under
   admits ei ed k = rw (k, ei, ed) refl
+
+-- ---- what a frame is answered
+
+-- r is what the order answers to the frame f
+abbrev pub Checks : Bool → Core → List ℕ → Result Admitted Status → Type 0
+Checks o c f r = (told r ≡ status_for o c f) × IfOk r (λ a. a ≡ admitted_of o c f)
+
+module _ (o : Bool) (c : Core) (f : List ℕ) where
+  module _ {s : ℕ} {v : Faults} (ev : v ≡ faults_of f) (e : s ≡ frame_order v.size v.class v.parameters v.frame) where
+    pub frame_refused : (x : Status) → s ≡ word_of x → Checks o c f (Err x)
+    frame_refused x q = (sym q ∙ frame_refuses o c f ev e (λ z. word_not_ok x (sym q ∙ z)), tt)
+
+    -- behind places 1 to 4: a refusal, and none
+    pub frame_passed : {i : ℕ} {d : List ℕ} {p : Places} → s ≡ ok → i ≡ ins_of f → d ≡ data_of f → p ≡ places_of o c i d
+        → ((x : Status) → word_of x ≡ in_order p → Checks o c f (Err x)) × (ok ≡ in_order p → Checks o c f (Ok (record { maced = p.maced; role = p.role })))
+    frame_passed z ei ed k = ((λ x q. (frame_passes o c f ev e z ei ed k q, tt)), (λ q. (frame_passes o c f ev e z ei ed k q, admits o c f ei ed k)))
+
+  pub status_told : (r : Result Admitted Status) → Checks o c f r → told r ≡ status_for o c f
+  status_told r h = h.0
+
+  -- an accepted frame is answered what its command takes on
+  pub admitted_told : (r : Result Admitted Status) → Checks o c f r → status_for o c f ≡ ok → (a : Admitted) × (r ≡ Ok a) × (a ≡ admitted_of o c f)
+  admitted_told (Ok a) h z = (a, refl, h.1)
+  admitted_told (Err x) h z = absurd (word_not_ok x (h.0 ∙ z))
+
+  pub maced_told : (r : Result Admitted Status) → Checks o c f r → status_for o c f ≡ ok → (a : Admitted) × (r ≡ Ok a) × (a.maced ≡ carries_mac o c (ins_of f) (data_of f))
+  maced_told r h z =
+      let (a, q, e) = admitted_told r h z in
+      (a, q, ap (λ (x : Admitted). x.maced) e)
+
+  pub role_told : (r : Result Admitted Status) → Checks o c f r → status_for o c f ≡ ok → (a : Admitted) × (r ≡ Ok a) × (a.role ≡ role_in c.settings (data_of f))
+  role_told r h z =
+      let (a, q, e) = admitted_told r h z in
+      (a, q, ap (λ (x : Admitted). x.role) e)
 
 -- ---- a frame of file bytes
 
