@@ -49,6 +49,7 @@ impl Log {
     const BESIDE: u8 = 3;
 
     // An empty log of zero bytes.
+    #[tactic(auto, unfolding(crate::specs::View::empty, crate::specs::Journal::blank))]
     pub fn empty() -> Log
         ensures { result ≡ empty }
     {
@@ -75,6 +76,7 @@ impl Log {
     }
 
     // ClearRecordFile.
+    #[tactic(auto, unfolding(crate::specs::View::put, crate::specs::Journal::dropped, crate::specs::Journal::cleared, crate::specs::Journal::resting))]
     pub fn clear(self) -> Log
         ensures { result ≡ put self 0 (cleared (view self)) }
     {
@@ -85,6 +87,7 @@ impl Log {
     }
 
     // The log with no entry and nothing pending.
+    #[tactic(auto, unfolding(crate::specs::View::put, crate::specs::View::view, crate::specs::Ring::ringed, crate::specs::Ring::laid_round, crate::specs::Journal::dropped, crate::specs::Journal::resting))]
     fn emptied(mut self) -> Log
         ensures { result ≡ put self 0 (resting []) }
     {

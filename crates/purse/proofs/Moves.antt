@@ -1,5 +1,5 @@
 -- A value moved by an amount: where the limit test passes, the sum fits 32 bits, and is not saturated.
-use Rattle.std.specs.Prelude.{◌≡◌, Bool, true, false, ℤ, ◌+ℤ◌}
+use Rattle.std.specs.Prelude.{◌≡◌, Bool, true, ℤ, ◌+ℤ◌}
 use Rattle.std.specs.Int.{w32, saturate_signed}
 use Rattle.std.proofs.Common.{sym, ◌∙◌, arith, SFits, to_z, of_z, to_z-of_z}
 use Rattle.limits.specs.declared.Limits.{Limits}
@@ -13,9 +13,6 @@ unsaturated f = grind (arith, f.sfits)
 module _ (l : Limits) (z : ℤ) {p : ℤ} {r : Bool} (f : SFits w32 p) (e : r ≡ within l (to_z w32 (of_z w32 p) +ℤ z)) where
   answer : within l (p +ℤ z) ≡ r
   answer = sym (rw (to_z-of_z f) at e)
-
-  pub refused : r ≡ false → within l (p +ℤ z) ≡ false
-  refused t = answer ∙ t
 
   pub held : r ≡ true → within l (p +ℤ z) ≡ true
   held t = answer ∙ t

@@ -44,6 +44,7 @@ impl Purse {
 
     // What Credit and LimitedCredit share: the pending value rises, with `left` left of the allowance. Where the limits hold the
     // sum it does not saturate, here or in `debit`.
+    #[tactic(auto, unfolding(crate::specs::Guarded::raise_in, tables::specs::Choice::pick))]
     fn raise(self, limits: Limits, amount: u32, left: u32) -> Purse
         ensures { result ≡ raise_in limits self amount left }
     {
@@ -65,6 +66,7 @@ impl Purse {
         self.raise(limits, amount, self.left)
     }
 
+    #[tactic(auto, unfolding(crate::specs::Guarded::debit_in, tables::specs::Choice::pick))]
     pub fn debit(self, limits: Limits, amount: u32) -> Purse
         ensures { result ≡ debit_in limits self amount }
     {
@@ -81,6 +83,7 @@ impl Purse {
     }
 
     // LimitedCredit: it uses up what is left of the allowance.
+    #[tactic(auto, unfolding(crate::specs::Guarded::rebook_in, crate::specs::Guarded::raise_in, crate::specs::Purse::rebooked, tables::specs::Choice::pick))]
     pub fn rebook(self, limits: Limits, amount: u32) -> Purse
         ensures { result ≡ rebook_in limits self amount }
     {
@@ -91,6 +94,7 @@ impl Purse {
     }
 
     // The pending figures become the committed ones; after a Debit the allowance is the sum of Debits.
+    #[tactic(auto, unfolding(crate::specs::Purse::settled, tables::specs::Choice::pick))]
     pub fn commit(self) -> Purse
         ensures { result ≡ settled self }
     {

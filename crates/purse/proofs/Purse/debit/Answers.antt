@@ -1,20 +1,14 @@
 use Rattle.std.specs.Prelude.{◌≡◌, ℕ, min}
 use Rattle.std.proofs.Common.{rules, arith, SFits, to_z-of_z}
 use Rattle.std.specs.Int.{w32}
-use Rattle.tables.specs.Choice.{picked, passed}
+use Rattle.tables.specs.Choice.{picked}
 use Rattle.purse.specs.Purse.{largest, debited}
 use Rattle.purse.specs.Guarded.{debit_in}
-use Rattle.purse.proofs.Moves.{refused, held, landed}
+use Rattle.purse.proofs.Moves.{held, landed}
 use Rattle.purse.proofs.Purse.debit.Goals as goal
 
 total : (sum held result : ℕ) → held ≡ min sum 4294967295 → result ≡ min held largest → result ≡ min sum largest
 total sum held result h r = omega (arith, h, r)
-
-pub returns-then-not-hold_fall : goal.returns-then-not-hold_fall
-unfolding debit_in
-returns-then-not-hold_fall c =
-    let f : SFits w32 c.args.self.pending = search rules in
-    rw (passed _ _ (refused _ _ f c.hold_fall.ensures c.if-not-hold_fall.true))
 
 pub returns : goal.returns
 unfolding debit_in debited

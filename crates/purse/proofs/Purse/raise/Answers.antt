@@ -1,15 +1,9 @@
 use Rattle.std.proofs.Common.{rules, SFits, to_z-of_z}
 use Rattle.std.specs.Int.{w32}
-use Rattle.tables.specs.Choice.{picked, passed}
+use Rattle.tables.specs.Choice.{picked}
 use Rattle.purse.specs.Guarded.{raise_in}
-use Rattle.purse.proofs.Moves.{refused, held, landed}
+use Rattle.purse.proofs.Moves.{held, landed}
 use Rattle.purse.proofs.Purse.raise.Goals as goal
-
-pub returns-then-not-hold_rise : goal.returns-then-not-hold_rise
-unfolding raise_in
-returns-then-not-hold_rise c =
-    let f : SFits w32 c.args.self.pending = search rules in
-    rw (passed _ _ (refused _ _ f c.hold_rise.ensures c.if-not-hold_rise.true))
 
 pub returns : goal.returns
 unfolding raise_in
