@@ -1,3 +1,4 @@
+pub mod Characters
 pub mod Laws
 pub mod Sofar
 pub mod FrameLaws
