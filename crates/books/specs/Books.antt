@@ -2,12 +2,11 @@
 use Rattle.std.specs.Prelude.{ℕ, Bool, not, ◌||◌, List, [], ◌∷◌, ◌++◌, ltb}
 use Rattle.tables.specs.Choice.{pick}
 use Rattle.purse.specs.declared.Purse.{Purse}
-use Rattle.logfile.specs.declared.Log.{Log}
-use Rattle.chains.specs.declared.Chain.{Chain}
 use Rattle.chains.specs.Chain.{is_open}
 use Rattle.channel.specs.declared.Stage.{Stage}
 use Rattle.channel.specs.declared.Stage.TheVariants.{Closed, Bench, Waiting, Real}
 use Rattle.decimal.specs.Decimal.{decimal, signed_decimal}
+use Rattle.books.specs.declared.Books.{Books}
 
 abbrev pub field : List ℕ → List ℕ
 field x = x ++ 0x20 ∷ []
@@ -36,12 +35,12 @@ figures_text p =
     ++ field (decimal p.left)
     ++ field (decimal p.debits)
 
-unfoldable pub marks_text : Bool → Log → Stage → Chain → List ℕ
-marks_text moved l g k = field (decimal l.count) ++ field (pending_letters moved l.adds l.clears (is_open k)) ++ stage_text g
+unfoldable pub marks_text : Books → List ℕ
+marks_text b = field (decimal b.log.count) ++ field (pending_letters b.purse.moved b.log.adds b.log.clears (is_open b.chain)) ++ stage_text b.stage
 
-unfoldable pub books_text : Purse → Log → Stage → Chain → List ℕ
-books_text p l g k = figures_text p ++ marks_text p.moved l g k
+unfoldable pub books_text : Books → List ℕ
+books_text b = figures_text b.purse ++ marks_text b
 
 -- where there is room for any books, else nothing
-unfoldable pub books_in : ℕ → Purse → Log → Stage → Chain → List ℕ
-books_in room p l g k = pick (ltb room 96) [] (books_text p l g k)
+unfoldable pub books_in : ℕ → Books → List ℕ
+books_in room b = pick (ltb room 96) [] (books_text b)

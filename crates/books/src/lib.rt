@@ -6,6 +6,7 @@ ghost use Rattle.text.specs.Shown.{Adds};
 ghost use Rattle.decimal.specs.Decimal.{decimal, signed_decimal};
 ghost use Rattle.wire.specs.Bytes.{Shows};
 ghost use Rattle.tables.specs.Choice.{pick};
+ghost use Rattle.chains.specs.Chain.{is_open};
 ghost use Rattle.books.specs.Books.{field, pending_letters, stage_text, figures_text, marks_text, books_in};
 
 use chains::Chain;
@@ -15,6 +16,15 @@ use purse::Purse;
 
 // Places enough for any books.
 pub const ROOM: usize = 96;
+
+// What the books of a card tell of: its value file, its log, its session and its chain.
+#[derive(Clone, Copy)]
+pub struct Books {
+    pub purse: Purse,
+    pub log: Log,
+    pub stage: Stage,
+    pub chain: Chain,
+}
 
 // Lays a character behind what is there.
 fn add_char(letter: u8, at: usize, answer: &mut [u8]) -> usize
@@ -65,27 +75,6 @@ fn add_letter(flag: bool, letter: u8, at: usize, answer: &mut [u8]) -> usize
     at
 }
 
-// What is pending, as letters, or `-`.
-fn add_pending(
-    value: bool,
-    entry: bool,
-    clear: bool,
-    write: bool,
-    at: usize,
-    answer: &mut [u8],
-) -> usize
-    requires { at + 6 ≤ length answer.old }
-    ensures adds { Adds (field (pending_letters value entry clear write)) answer.old at answer.new result }
-    ensures upper_bound { result ≤ at + 6 }
-{
-    let a = add_letter(value, b'v', at, answer);
-    let b = add_letter(entry, b'n', a, answer);
-    let c = add_letter(clear, b'c', b, answer);
-    let d = add_letter(write, b'w', c, answer);
-    let e = add_letter(!(value | entry | clear | write), b'-', d, answer);
-    add_char(b' ', e, answer)
-}
-
 // A real session's key and counter.
 fn add_real(key: u8, counter: u16, at: usize, answer: &mut [u8]) -> usize
     requires { at + 21 ≤ length answer.old }
@@ -121,30 +110,43 @@ fn put_figures(purse: Purse, answer: &mut [u8]) -> usize
     add_decimal(purse.debits, b' ', d, answer)
 }
 
-// The number of entries, what is pending, the session.
-fn add_marks(
-    moved: bool,
-    log: Log,
-    stage: Stage,
-    chain: Chain,
-    at: usize,
-    answer: &mut [u8],
-) -> usize
-    requires { (at ≤ 57) × (96 ≤ length answer.old) }
-    ensures { Adds (marks_text moved log stage chain) answer.old at answer.new result }
-{
-    let a = add_decimal(log.count as u32, b' ', at, answer);
-    let b = add_pending(moved, log.adds, log.clears, chain.left != 0, a, answer);
-    add_stage(stage, b, answer)
-}
-
-// Lays the books over the front of answer and answers the number of characters; nothing and 0 where answer has fewer than ROOM places.
-pub fn put_books(purse: Purse, log: Log, stage: Stage, chain: Chain, answer: &mut [u8]) -> usize
-    ensures { Shows (books_in (length answer.old) purse log stage chain) answer.old answer.new result }
-{
-    if answer.len() < ROOM {
-        return 0;
+impl Books {
+    // What is pending, as letters, or `-`.
+    fn add_pending(self, at: usize, answer: &mut [u8]) -> usize
+        requires { at + 6 ≤ length answer.old }
+        ensures adds { Adds (field (pending_letters self.purse.moved self.log.adds self.log.clears (is_open self.chain))) answer.old at answer.new result }
+        ensures upper_bound { result ≤ at + 6 }
+    {
+        let value = self.purse.moved;
+        let entry = self.log.adds;
+        let clear = self.log.clears;
+        let write = self.chain.left != 0;
+        let a = add_letter(value, b'v', at, answer);
+        let b = add_letter(entry, b'n', a, answer);
+        let c = add_letter(clear, b'c', b, answer);
+        let d = add_letter(write, b'w', c, answer);
+        let e = add_letter(!(value | entry | clear | write), b'-', d, answer);
+        add_char(b' ', e, answer)
     }
-    let a = put_figures(purse, answer);
-    add_marks(purse.moved, log, stage, chain, a, answer)
+
+    // The number of entries, what is pending, the session.
+    fn add_marks(self, at: usize, answer: &mut [u8]) -> usize
+        requires { (at ≤ 57) × (96 ≤ length answer.old) }
+        ensures { Adds (marks_text self) answer.old at answer.new result }
+    {
+        let a = add_decimal(self.log.count as u32, b' ', at, answer);
+        let b = self.add_pending(a, answer);
+        add_stage(self.stage, b, answer)
+    }
+
+    // Lays the books over the front of answer and answers the number of characters; nothing and 0 where answer has fewer than ROOM places.
+    pub fn put(self, answer: &mut [u8]) -> usize
+        ensures { Shows (books_in (length answer.old) self) answer.old answer.new result }
+    {
+        if answer.len() < ROOM {
+            return 0;
+        }
+        let a = put_figures(self.purse, answer);
+        self.add_marks(a, answer)
+    }
 }

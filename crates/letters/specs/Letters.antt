@@ -18,7 +18,7 @@ use Rattle.lines.specs.Lines.{Said}
 use Rattle.lines.specs.Frames.{longest_line}
 use Rattle.desk.specs.declared.Desk.{Desk}
 use Rattle.desk.specs.Room.{most_room}
-use Rattle.told.specs.Told.{after_event, replied, opened_on, sent_on}
+use Rattle.told.specs.Told.{books_of, after_event, replied, opened_on, sent_on}
 
 -- a line that does not reach the card: `?`
 unfoldable pub unread : Desk → Said Desk
@@ -49,7 +49,7 @@ handed k u = record { next = record { card = k.card; inputs = u; room = k.room; 
 -- ---- B: the books
 
 unfoldable pub book_kept : Desk → Said Desk
-book_kept k = record { next = k; out = books_text k.card.purse k.card.log k.card.channel.stage k.card.channel.chain }
+book_kept k = record { next = k; out = books_text (books_of k.card) }
 
 -- ---- L: the slot bytes that the last event stored
 

@@ -14,18 +14,15 @@ use kinds::Kind;
 use lines::LONGEST_FRAME;
 use notices::Notice;
 use orders::Order;
-use told::Told;
+use told::{Frame, Told};
 
 // P: personalise.
 fn personalise(mut desk: Desk, b: &[u8]) -> Told
     ensures { said_of result ≡ counted desk (personalised (order_in b.now).settings (order_in b.now).keys (order_in b.now).value) }
 {
     let order = Order::read(b);
-    let settings = order.settings;
-    let keys = order.keys;
-    let made = Card::personalise(settings, keys, order.value);
-    let next = made.card;
-    desk.card = next;
+    let made = Card::personalise(order.settings, order.keys, order.value);
+    desk.card = made.card;
     desk.stored = made.stored;
     Told {
         desk,
@@ -37,10 +34,8 @@ fn personalise(mut desk: Desk, b: &[u8]) -> Told
 fn change_session(mut desk: Desk, session: Option<u8>) -> Told
     ensures { said_of result ≡ counted desk (session_changed desk.card session) }
 {
-    let card = desk.card;
-    let changed = card.change_session(session);
-    let next = changed.card;
-    desk.card = next;
+    let changed = desk.card.change_session(session);
+    desk.card = changed.card;
     desk.stored = changed.stored;
     Told {
         desk,
@@ -83,8 +78,7 @@ fn hand_in(mut desk: Desk, b: &[u8]) -> Told
     wire::lay(&mut random, 0, &b[0..16]);
     let mut ti = [0u8; 4];
     wire::lay(&mut ti, 0, &b[16..20]);
-    let inputs = Inputs { random, ti };
-    desk.inputs = inputs;
+    desk.inputs = Inputs { random, ti };
     Told {
         desk,
         notice: Notice::Number(None),
@@ -102,19 +96,16 @@ fn say_kind(desk: Desk, kind: Kind, b: &[u8]) -> Told
         Kind::Session => change_session(desk, Some(wire::byte_at(b, 0))),
         Kind::Room => lend(desk, length_in(b)),
         Kind::HandedIn => hand_in(desk, b),
-        Kind::Opening => told::play(desk, true, b),
-        Kind::FileBytes => told::play(desk, false, b),
+        Kind::Opening => told::play(desk, Frame::Opening, b),
+        Kind::FileBytes => told::play(desk, Frame::FileBytes, b),
         Kind::Books => Told {
             desk,
             notice: Notice::Books,
         },
-        Kind::Count => {
-            let stored = desk.stored;
-            Told {
-                desk,
-                notice: Notice::Count(stored),
-            }
-        }
+        Kind::Count => Told {
+            desk,
+            notice: Notice::Count(desk.stored),
+        },
         Kind::Unread => Told {
             desk,
             notice: Notice::Unread,

@@ -16,10 +16,8 @@ use told::Told;
 fn power_up(mut desk: Desk) -> Told
     ensures { said_of result ≡ powered desk }
 {
-    let card = desk.card;
-    let reply = card.power_up();
-    let next = reply.card;
-    desk.card = next;
+    let reply = desk.card.power_up();
+    desk.card = reply.card;
     desk.stored = reply.stored;
     Told {
         desk,

@@ -7,10 +7,7 @@ ghost use Rattle.answers.specs.Answers.{refusal_text};
 ghost use Rattle.text.specs.Shown.{in_room, Adds};
 ghost use Rattle.notices.specs.Notices.{notice_text};
 
-use chains::Chain;
-use channel::Stage;
-use logfile::Log;
-use purse::Purse;
+use books::Books;
 use refusals::Refusal;
 
 // `?`, `!` and a bench refusal's number or 0, the same but nothing without a refusal, the two bytes of a status word in digits, a count, the books.
@@ -34,56 +31,33 @@ fn put_refusal(refusal: Option<Refusal>, answer: &mut [u8]) -> usize
     }
 }
 
-// Lays a notice over the front of text, and answers the number of its characters; the books are those of the parts given.
-fn put_text(
-    notice: Notice,
-    purse: Purse,
-    log: Log,
-    stage: Stage,
-    chain: Chain,
-    text: &mut [u8],
-) -> usize
+// Lays a notice over the front of text, and answers the number of its characters; the books are those given.
+fn put_text(notice: Notice, books: Books, text: &mut [u8]) -> usize
     requires { 96 ≤ length text.old }
-    ensures { Shows (notice_text notice purse log stage chain) text.old text.new result }
+    ensures { Shows (notice_text notice books) text.old text.new result }
 {
     match notice {
         Notice::Unread => {
             let one = [0x3F];
             wire::lay(text, 0, &one);
-            return 1;
+            1
         }
-        Notice::Number(refusal) => {
-            return answers::put_number(refusals::number_of(refusal), text);
-        }
-        Notice::Refusal(refusal) => {
-            return put_refusal(refusal, text);
-        }
+        Notice::Number(refusal) => answers::put_number(refusals::number_of(refusal), text),
+        Notice::Refusal(refusal) => put_refusal(refusal, text),
         Notice::Status(high, low) => {
             let two = [high, low];
-            return text::put_digits(&two, text);
+            text::put_digits(&two, text)
         }
-        Notice::Count(n) => {
-            return decimal::put_decimal(n as u32, text);
-        }
-        Notice::Books => {
-            return books::put_books(purse, log, stage, chain, text);
-        }
+        Notice::Count(n) => decimal::put_decimal(n as u32, text),
+        Notice::Books => books.put(text),
     }
 }
 
 // Puts a notice and its LF from place at of out on, and answers the place behind; nothing and at where there is no room.
-pub fn put(
-    notice: Notice,
-    purse: Purse,
-    log: Log,
-    stage: Stage,
-    chain: Chain,
-    at: usize,
-    out: &mut [u8],
-) -> usize
-    ensures { Adds (in_room (length out.old - at) (notice_text notice purse log stage chain ++ 0x0A ∷ [])) out.old at out.new result }
+pub fn put(notice: Notice, books: Books, at: usize, out: &mut [u8]) -> usize
+    ensures { Adds (in_room (length out.old - at) (notice_text notice books ++ 0x0A ∷ [])) out.old at out.new result }
 {
     let mut text = [0u8; books::ROOM];
-    let len = put_text(notice, purse, log, stage, chain, &mut text);
+    let len = put_text(notice, books, &mut text);
     lines::put(&text[0..len], at, out)
 }

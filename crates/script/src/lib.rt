@@ -7,6 +7,7 @@ ghost use Rattle.lines.specs.Lines.{lines_after, went, Goes};
 ghost use Rattle.told.specs.Told.{said_of};
 ghost use Rattle.script.specs.Lines.{line_said};
 
+use books::Books;
 use card::Reply;
 use desk::{Desk, MOST_ROOM};
 use lines::{LONGEST_FRAME, Player, Progress};
@@ -16,13 +17,14 @@ use told::Told;
 fn put_told(told: Told, at: usize, out: &mut [u8]) -> usize
     ensures { Adds (in_room (length out.old - at) ((said_of told).out ++ 0x0A ∷ [])) out.old at out.new result }
 {
-    let notice = told.notice;
-    let desk = told.desk;
-    let card = desk.card;
-    let channel = card.channel;
-    let stage = channel.stage;
-    let chain = channel.chain;
-    notices::put(notice, card.purse, card.log, stage, chain, at, out)
+    let card = told.desk.card;
+    let books = Books {
+        purse: card.purse,
+        log: card.log,
+        stage: card.channel.stage,
+        chain: card.channel.chain,
+    };
+    notices::put(told.notice, books, at, out)
 }
 
 // Room for every answer to a command: two digits a byte of the largest reply buffer, and LF.
@@ -39,9 +41,8 @@ pub fn run(mut desk: Desk, text: &[u8], out: &mut [u8]) -> Progress<Desk>
     let mut reply = [0u8; MOST_ROOM];
     let mut at = 0;
     let mut n = 0;
-    let first = desk.card;
     let mut played = Reply {
-        card: first,
+        card: desk.card,
         refusal: None,
         stored: desk.stored,
         len: 0,
@@ -50,14 +51,14 @@ pub fn run(mut desk: Desk, text: &[u8], out: &mut [u8]) -> Progress<Desk>
         if let Some(size) = lines::spell_frame(text, at, &mut frame) {
             let lent = desk::lent_room(desk.room);
             let inputs = desk.inputs;
-            let card = played.card;
             if out.len() - n < MOST_ANSWER {
-                desk.card = card;
+                desk.card = played.card;
                 desk.stored = played.stored;
             }
-            played = card.command(&frame[0..size], inputs, &mut reply[0..lent]);
-            let len = played.len;
-            let put = answers::put_line(played.refusal, &reply[0..len], n, out);
+            played = played
+                .card
+                .command(&frame[0..size], inputs, &mut reply[0..lent]);
+            let put = answers::put_line(played.refusal, &reply[0..played.len], n, out);
             if put == n {
                 return Progress {
                     state: desk,
@@ -69,8 +70,7 @@ pub fn run(mut desk: Desk, text: &[u8], out: &mut [u8]) -> Progress<Desk>
             at = at + 2 * size + 1;
             continue;
         }
-        let card = played.card;
-        desk.card = card;
+        desk.card = played.card;
         desk.stored = played.stored;
         let e = lines::line_end(text, at);
         if e == text.len() {
@@ -90,9 +90,8 @@ pub fn run(mut desk: Desk, text: &[u8], out: &mut [u8]) -> Progress<Desk>
             };
         }
         desk = told.desk;
-        let next = desk.card;
         played = Reply {
-            card: next,
+            card: desk.card,
             refusal: None,
             stored: desk.stored,
             len: 0,
@@ -100,8 +99,7 @@ pub fn run(mut desk: Desk, text: &[u8], out: &mut [u8]) -> Progress<Desk>
         n = put;
         at = e + 1;
     }
-    let card = played.card;
-    desk.card = card;
+    desk.card = played.card;
     desk.stored = played.stored;
     Progress {
         state: desk,

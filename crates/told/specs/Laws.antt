@@ -7,10 +7,7 @@ use Rattle.tables.specs.Choice.{pick, pick_both}
 use Rattle.wire.specs.Bytes.{part, word}
 use Rattle.wire.proofs.Laws.{length_part, front_laid, front_fits}
 use Rattle.refusals.specs.declared.Refusal.{Refusal}
-use Rattle.purse.specs.declared.Purse.{Purse}
-use Rattle.logfile.specs.declared.Log.{Log}
-use Rattle.chains.specs.declared.Chain.{Chain}
-use Rattle.channel.specs.declared.Stage.{Stage}
+use Rattle.books.specs.declared.Books.{Books}
 use Rattle.answers.specs.Answers.{reply_text}
 use Rattle.notices.specs.declared.Notice.{Notice}
 use Rattle.notices.specs.Notices.{notice_text}
@@ -63,7 +60,7 @@ Brief refusal x = (length x ≡ 0 → ⊥) → (refusal ≡ None) × (length x �
 
 -- the notice n shows the reply x, beside any books
 abbrev pub Tells : Notice → Option Refusal → List ℕ → Type 0
-Tells n refusal x = (p : Purse) (l : Log) (g : Stage) (k : Chain) → notice_text n p l g k ≡ reply_text refusal x
+Tells n refusal x = (b : Books) → notice_text n b ≡ reply_text refusal x
 
 played_brief : (c : Card) (room : ℕ) (b : Bool) (p q : Played) → Short p.out → Short q.out → let o = benched c room (pick b p q) in Brief o.refusal o.out
 unfolding laid_into bench

@@ -5,14 +5,21 @@ use Rattle.card.specs.Outcome.{Outcome}
 use Rattle.card.specs.Events.{chain_opened, bytes_sent}
 use Rattle.answers.specs.Answers.{reply_text}
 use Rattle.lines.specs.Lines.{Said}
+use Rattle.books.specs.declared.Books.{Books}
 use Rattle.notices.specs.Notices.{notice_text}
 use Rattle.desk.specs.declared.Desk.{Desk}
 use Rattle.desk.specs.Room.{lent_room}
 use Rattle.told.specs.declared.Told.{Told}
+use Rattle.told.specs.declared.Frame.{Frame}
+use Rattle.told.specs.declared.Frame.TheVariants.{Opening, FileBytes}
+
+-- the books of a card
+abbrev pub books_of : Card → Books
+books_of c = record { purse = c.purse; log = c.log; stage = c.channel.stage; chain = c.channel.chain }
 
 -- what the code tells of a line; the books are those of the card after it
 unfoldable pub said_of : Told → Said Desk
-said_of r = record { next = r.desk; out = notice_text r.notice r.desk.card.purse r.desk.card.log r.desk.card.channel.stage r.desk.card.channel.chain }
+said_of r = record { next = r.desk; out = notice_text r.notice (books_of r.desk.card) }
 
 -- the desk after an event that left the card c and stored n slot bytes
 unfoldable pub after_event : Desk → Card → ℕ → Desk
@@ -23,6 +30,11 @@ unfoldable pub replied : Desk → Outcome → Said Desk
 replied k o = record { next = after_event k o.card o.stored; out = reply_text o.refusal o.out }
 
 -- ---- C and D: a chain on the card of the desk
+
+-- its frame on a card that lends a reply buffer of this length: its opening, or file bytes
+unfoldable pub framed : Frame → Card → List ℕ → ℕ → Outcome
+framed Opening c f room = chain_opened c f room
+framed FileBytes c b room = bytes_sent c b room
 
 -- its opening, the frame f
 abbrev pub opened_on : Desk → List ℕ → Outcome

@@ -2,10 +2,9 @@
 #![tactic(auto)]
 
 ghost use Rattle.std.specs.Prelude.{◌≡◌, length};
-ghost use Rattle.tables.specs.Choice.{pick};
 ghost use Rattle.card.specs.Outcome.{Answered};
-ghost use Rattle.card.specs.Events.{chain_opened, bytes_sent};
-ghost use Rattle.told.specs.Told.{said_of, replied, opened_on, sent_on};
+ghost use Rattle.desk.specs.Room.{lent_room};
+ghost use Rattle.told.specs.Told.{said_of, replied, framed};
 ghost use Rattle.told.specs.Laws.{Brief, Tells};
 
 use card::{Card, Reply};
@@ -20,14 +19,21 @@ pub struct Told {
     pub notice: Notice,
 }
 
-// The frame b as an opening, or as file bytes.
-fn event(card: Card, opens: bool, b: &[u8], reply: &mut [u8]) -> Reply
-    ensures { Answered (pick opens (chain_opened card b.now (length reply.old)) (bytes_sent card b.now (length reply.old))) reply.old reply.new result }
+// The frames of a chain: the one that opens it, and those of file bytes.
+#[derive(Clone, Copy)]
+pub enum Frame {
+    Opening,
+    FileBytes,
+}
+
+// The frame b on the card.
+fn event(card: Card, frame: Frame, b: &[u8], reply: &mut [u8]) -> Reply
+    ensures { Answered (framed frame card b.now (length reply.old)) reply.old reply.new result }
 {
-    if opens {
-        return card.open_chain(b, reply);
+    match frame {
+        Frame::Opening => card.open_chain(b, reply),
+        Frame::FileBytes => card.file_frame(b, reply),
     }
-    card.file_frame(b, reply)
 }
 
 // The answer to a reply, which is a status word or nothing.
@@ -41,20 +47,17 @@ fn answer(refusal: Option<Refusal>, reply: &[u8]) -> Notice
     Notice::Status(reply[0], reply[1])
 }
 
-// The event on the card of the desk.
-pub fn play(mut desk: Desk, opens: bool, b: &[u8]) -> Told
-    ensures { said_of result ≡ replied desk (pick opens (opened_on desk b.now) (sent_on desk b.now)) }
+// The frame b on the card of the desk.
+pub fn play(mut desk: Desk, frame: Frame, b: &[u8]) -> Told
+    ensures { said_of result ≡ replied desk (framed frame desk.card b.now (lent_room desk.room)) }
 {
     let mut reply = [0u8; MOST_ROOM];
     let lent = desk::lent_room(desk.room);
-    let card = desk.card;
-    let played = event(card, opens, b, &mut reply[0..lent]);
-    let next = played.card;
-    desk.card = next;
+    let played = event(desk.card, frame, b, &mut reply[0..lent]);
+    desk.card = played.card;
     desk.stored = played.stored;
-    let len = played.len;
     Told {
         desk,
-        notice: answer(played.refusal, &reply[0..len]),
+        notice: answer(played.refusal, &reply[0..played.len]),
     }
 }

@@ -1,10 +1,13 @@
-use Rattle.card.specs.Outcome.{Outcome, Answered}
-use Rattle.tables.specs.Choice.{picked, passed}
-use mathlib.Core.Path.{sym, subst}
+use Rattle.told.specs.declared.Frame.TheVariants.{Opening, FileBytes}
+use Rattle.told.specs.Told.{framed}
+use mathlib.Core.Path.{◌≡◌}
+use borrow.Author.Rules.{rules}
 use Rattle.told.proofs.event.Goals as goal
 
-pub returns-then-opens : goal.returns-then-opens
-returns-then-opens c = subst (λ (o : Outcome). Answered o c.args.reply.now c.open_chain.new.reply c.open_chain.result) (sym (picked _ _ c.if-opens.true)) c.open_chain.ensures
+pub returns-in-Opening : goal.returns-in-Opening
+unfolding framed
+returns-in-Opening c = let e : c.args.frame ≡ Opening = search rules in rw e c.open_chain.ensures
 
-pub returns : goal.returns
-returns c = subst (λ (o : Outcome). Answered o c.args.reply.now c.file_frame.new.reply c.file_frame.result) (sym (passed _ _ c.if-opens.false)) c.file_frame.ensures
+pub returns-in-FileBytes : goal.returns-in-FileBytes
+unfolding framed
+returns-in-FileBytes c = let e : c.args.frame ≡ FileBytes = search rules in rw e c.file_frame.ensures

@@ -1,11 +1,10 @@
-use Rattle.told.proofs.Steps.{replied_by}
-use Rattle.told.specs.Told.{after_event, opened_on, sent_on}
-use Rattle.told.specs.Laws.{Plays, Brief, plays_lent, reply_bytes, opening_brief, bytes_brief}
+use Rattle.told.proofs.Steps.{frame_brief, replied_by}
+use Rattle.told.specs.Told.{after_event, framed}
+use Rattle.told.specs.Laws.{Plays, Brief, plays_lent, reply_bytes}
 use Rattle.desk.specs.Laws.{lent_most}
 use Rattle.card.specs.declared.Reply.{Reply}
 use Rattle.card.specs.Outcome.{Outcome, reply_of}
-use Rattle.card.specs.Events.{chain_opened, bytes_sent}
-use Rattle.tables.specs.Choice.{pick, pick_both}
+use Rattle.desk.specs.Room.{lent_room}
 use lib.ListN.{length, drop, replicate}
 use lib.Seq.{length_front}
 use native.Mathlib.Omega.{arith}
@@ -24,16 +23,15 @@ module _ (k : After-event-played) where
   buffer_length = length_front (replicate 512 0) k.event-played.new.reply (k.lent_room-lent.result - 0) k.event-played.auto.reply
 
   abbrev outcome : Outcome
-  outcome = let a = k.args in pick a.opens (opened_on a.desk a.b.now) (sent_on a.desk a.b.now)
+  outcome = let a = k.args in framed a.frame a.desk.card a.b.now (lent_room a.desk.room)
 
   plays : Plays outcome buffer k.event-played.result
   plays =
       let a = k.args in
-      plays_lent (λ (room : ℕ). pick a.opens (chain_opened a.desk.card a.b.now room) (bytes_sent a.desk.card a.b.now room)) (replicate 512 0) _ a.desk.room _ _ k.lent_room-lent.ensures (omega arith) k.event-played.auto.reply k.event-played.ensures
+      plays_lent (framed a.frame a.desk.card a.b.now) (replicate 512 0) _ a.desk.room _ _ k.lent_room-lent.ensures (omega arith) k.event-played.auto.reply k.event-played.ensures
 
   brief : Brief outcome.refusal outcome.out
-  brief = let a = k.args in
-      pick_both (λ (o : Outcome). Brief o.refusal o.out) a.opens (opened_on a.desk a.b.now) (sent_on a.desk a.b.now) (opening_brief _ _ _) (bytes_brief _ _ _)
+  brief = let a = k.args in frame_brief a.frame a.desk.card a.b.now (lent_room a.desk.room)
 
 pub slice_bounds-reply-end : goal.slice_bounds-reply-end
 slice_bounds-reply-end c = omega (arith, lent_most c.args.desk.room, c.lent_room-lent.ensures)

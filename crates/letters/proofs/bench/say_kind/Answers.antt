@@ -2,8 +2,7 @@ use Rattle.std.specs.Prelude.{Some}
 use Rattle.kinds.specs.declared.Kind.TheVariants.{Order, NoSession, Session, Room, HandedIn, Opening, FileBytes, Books, Count, Unread}
 use Rattle.card.specs.Events.{session_changed}
 use Rattle.notices.specs.Notices.{notice_text}
-use Rattle.tables.specs.Choice.{pick}
-use Rattle.told.specs.Told.{said_of}
+use Rattle.told.specs.Told.{said_of, framed}
 use Rattle.letters.specs.Letters.{unread, counted, lent, book_kept, stored_told, lettered_by}
 use mathlib.Core.Path.{◌≡◌, refl, ap, ◌∙◌}
 use borrow.Author.Rules.{rules}
@@ -33,11 +32,11 @@ unfolding lettered_by
 returns-in-HandedIn c = let e : c.args.kind ≡ HandedIn = search rules in rw e c.hand_in.ensures
 
 pub returns-in-Opening : goal.returns-in-Opening
-unfolding lettered_by pick
+unfolding lettered_by framed
 returns-in-Opening c = let e : c.args.kind ≡ Opening = search rules in rw e c.play.ensures
 
 pub returns-in-FileBytes : goal.returns-in-FileBytes
-unfolding lettered_by pick
+unfolding lettered_by framed
 returns-in-FileBytes c = let e : c.args.kind ≡ FileBytes = search rules in rw e c.play-in-FileBytes.ensures
 
 pub returns-in-Books : goal.returns-in-Books

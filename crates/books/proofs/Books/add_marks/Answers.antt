@@ -1,6 +1,6 @@
 use Rattle.books.specs.Books.{marks_text}
 use Rattle.text.specs.Adds.{adds_then}
-use Rattle.books.proofs.add_marks.Goals as goal
+use Rattle.books.proofs.Books.add_marks.Goals as goal
 
 pub returns : goal.returns
 unfolding marks_text

@@ -5,7 +5,7 @@ use Rattle.wire.proofs.Laws.{shows_as, shows_none}
 use Rattle.tables.specs.Choice.{picked, passed}
 use borrow.Author.Tests.{lt-ltb, le-ltb}
 use mathlib.Core.Path.{sym}
-use Rattle.books.proofs.put_books.Goals as goal
+use Rattle.books.proofs.Books.put.Goals as goal
 
 pub returns-then-answer-lt-ROOM : goal.returns-then-answer-lt-ROOM
 unfolding books_in

@@ -1,7 +1,7 @@
 use native.Mathlib.Omega.{arith}
 use Rattle.books.specs.Books.{pending_letters}
 use Rattle.text.specs.Adds.{adds_then}
-use Rattle.books.proofs.add_pending.Goals as goal
+use Rattle.books.proofs.Books.add_pending.Goals as goal
 
 pub returns : goal.returns
 unfolding pending_letters
