@@ -6,7 +6,7 @@ ghost use Rattle.drafts.specs.Drafts.{lettered_by, lettered, Writes};
 
 use super::{Step, parts};
 use held::Draft;
-use lines::LONGEST_FRAME;
+use lines::{LONGEST_FRAME, LONGEST_LINE};
 
 // A letter with n characters behind it, and the bytes b that they spell.
 fn put_spelt(
@@ -16,9 +16,9 @@ fn put_spelt(
     n: usize,
     digits: bool,
     b: &[u8],
-    text: &mut [u8],
+    text: &mut [u8; LONGEST_LINE],
 ) -> Step
-    requires { (length line.now ≤ longest_line) × (longest_line ≤ length text.old) × (digits ≡ true → n ≡ 2 * length b.now) }
+    requires { (length line.now ≤ longest_line) × (digits ≡ true → n ≡ 2 * length b.now) }
     ensures { Writes (lettered_by draft line.now letter n digits b.now) text.old text.new result }
 {
     if (letter == b'M') & digits {
@@ -40,8 +40,8 @@ fn put_spelt(
 }
 
 // A line of a letter and the characters behind it.
-pub(crate) fn put_lettered(draft: Draft, line: &[u8], text: &mut [u8]) -> Step
-    requires { (0 < length line.now) × (length line.now ≤ longest_line) × (longest_line ≤ length text.old) }
+pub(crate) fn put_lettered(draft: Draft, line: &[u8], text: &mut [u8; LONGEST_LINE]) -> Step
+    requires { (0 < length line.now) × (length line.now ≤ longest_line) }
     ensures { Writes (lettered draft line.now (get_or line.now 0 0) (part line.now 1 (length line.now))) text.old text.new result }
 {
     let mut bytes = [0u8; LONGEST_FRAME];

@@ -20,8 +20,7 @@ struct Step {
 }
 
 // What a line writes, over the front of text.
-fn write_line(draft: Draft, line: &[u8], text: &mut [u8]) -> Step
-    requires { longest_line ≤ length text.old }
+fn write_line(draft: Draft, line: &[u8], text: &mut [u8; LONGEST_LINE]) -> Step
     ensures { Writes (drafted draft line.now) text.old text.new result }
 {
     let n = line.len();

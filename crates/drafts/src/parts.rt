@@ -8,6 +8,7 @@ ghost use Rattle.drafts.specs.Drafts.{unchanged, unread, authenticated, maced, W
 
 use super::Step;
 use held::Draft;
+use lines::LONGEST_LINE;
 
 // Sixteen bytes from place at on.
 fn sixteen(b: &[u8], at: usize) -> [u8; 16]
@@ -32,8 +33,7 @@ pub(crate) fn noted(mut draft: Draft, b: &[u8]) -> Draft
     draft
 }
 
-pub(crate) fn put_unread(draft: Draft, text: &mut [u8]) -> Step
-    requires { 1 ≤ length text.old }
+pub(crate) fn put_unread(draft: Draft, text: &mut [u8; LONGEST_LINE]) -> Step
     ensures { Writes (unread draft) text.old text.new result }
 {
     let one = [0x3F];
@@ -41,8 +41,8 @@ pub(crate) fn put_unread(draft: Draft, text: &mut [u8]) -> Step
     Step { draft, len: 1 }
 }
 
-pub(crate) fn put_same(draft: Draft, line: &[u8], text: &mut [u8]) -> Step
-    requires { length line.now ≤ length text.old }
+pub(crate) fn put_same(draft: Draft, line: &[u8], text: &mut [u8; LONGEST_LINE]) -> Step
+    requires { length line.now ≤ longest_line }
     ensures { Writes (unchanged draft line.now) text.old text.new result }
 {
     wire::lay(text, 0, line);
@@ -65,8 +65,8 @@ fn put_two(first: [u8; 8], second: [u8; 38], text: &mut [u8]) -> usize
 }
 
 // Both parts of an authentication: b is key number, key, RndA.
-pub(crate) fn put_authenticated(draft: Draft, b: &[u8], text: &mut [u8]) -> Step
-    requires { (length b.now ≡ 33) × (longest_line ≤ length text.old) }
+pub(crate) fn put_authenticated(draft: Draft, b: &[u8], text: &mut [u8; LONGEST_LINE]) -> Step
+    requires { length b.now ≡ 33 }
     ensures { Writes (authenticated draft b.now) text.old text.new result }
 {
     let k = sixteen(b, 1);
@@ -82,8 +82,7 @@ pub(crate) fn put_authenticated(draft: Draft, b: &[u8], text: &mut [u8]) -> Step
 }
 
 // A frame with its MAC.
-pub(crate) fn put_maced(draft: Draft, frame: &[u8], text: &mut [u8]) -> Step
-    requires { longest_line ≤ length text.old }
+pub(crate) fn put_maced(draft: Draft, frame: &[u8], text: &mut [u8; LONGEST_LINE]) -> Step
     ensures { Writes (maced draft frame.now) text.old text.new result }
 {
     if !draft.held {

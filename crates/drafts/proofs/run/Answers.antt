@@ -10,7 +10,7 @@ use lib.ListN.{length}
 use native.Mathlib.Omega.{arith}
 use Prim.Native.Nat.{ℕ, ◌-◌, ◌≤◌, ◌<◌}
 use mathlib.Core.List.{List, [], ◌∷◌, ◌++◌}
-use mathlib.Core.Path.{◌≡◌, subst, ◌∙◌}
+use mathlib.Core.Path.{◌≡◌, sym, subst, ◌∙◌}
 use Rattle.drafts.proofs.run.Goals as goal
 use Rattle.drafts.proofs.run.Goals.{After-line_end-e, After-put-put, After-write_line-step, Else-e-text}
 
@@ -27,8 +27,8 @@ written : (c : After-write_line-step) → (c.write_line-step.result.len ≤ 1024
 written c =
     let w = c.write_line-step in
     let l = c.loop-at.invariant.0 in
-    let k = w.auto.text in
-    (omega (arith, shows_fits _ _ _ _ w.ensures.1 k), k ∙ l)
+    let n : length w.new.text ≡ 1024 = search rules in
+    (omega (arith, shows_fits _ _ _ _ w.ensures.1 (n ∙ sym l)), n)
 
 -- and was put behind what was written before
 put_line : (c : After-put-put) → let v = c.loop-at in
@@ -55,9 +55,6 @@ slice_bounds-write_line-start c = omega (arith, (ends (goal.at.slice_bounds-writ
 pub slice_bounds-write_line-end : goal.slice_bounds-write_line-end
 slice_bounds-write_line-end c = omega (arith, (ends (goal.at.slice_bounds-write_line-end c).After-line_end-e).2)
 
-pub write_line-step-requires : goal.write_line-step-requires
-write_line-step-requires c = omega (arith, c.loop-at.invariant.0)
-
 pub slice_bounds-put-end : goal.slice_bounds-put-end
 slice_bounds-put-end c =
     let p = (goal.at.slice_bounds-put-end c).After-write_line-step in
@@ -80,7 +77,7 @@ loop-at-smaller c = omega (arith, inside (goal.at.loop-at-smaller c).Else-e-text
 pub loop-at-preserved : goal.loop-at-preserved
 loop-at-preserved c =
     let p = (goal.at.loop-at-preserved c).After-line_end-e in
-    let v = c.loop-at in let w = c.write_line-step in (w.auto.text ∙ v.invariant.0, sofar_as drafted _ _ _ _ _ _ _ _ w.ensures.0 (sofar_next drafted _ _ _ _ _ _ _ v.invariant.1 _ (ends p).0 (ends p).1 (inside (goal.at.loop-at-preserved c).Else-e-text) _ _ (put_line (goal.at.loop-at-preserved c).After-put-put) c.if-put-n.false))
+    let v = c.loop-at in let w = c.write_line-step in (search rules, sofar_as drafted _ _ _ _ _ _ _ _ w.ensures.0 (sofar_next drafted _ _ _ _ _ _ _ v.invariant.1 _ (ends p).0 (ends p).1 (inside (goal.at.loop-at-preserved c).Else-e-text) _ _ (put_line (goal.at.loop-at-preserved c).After-put-put) c.if-put-n.false))
 
 pub shape_of-out : goal.shape_of-out
 shape_of-out c = sofar_length drafted _ _ _ _ _ _ _ c.loop-at.invariant.1

@@ -32,7 +32,7 @@ pub slice_bounds-put_spelt-end : goal.slice_bounds-put_spelt-end
 slice_bounds-put_spelt-end c = let z = sizes (goal.at.slice_bounds-put_spelt-end c).After-spell-size in let k = c.spell-size.auto.out in search rules
 
 pub put_spelt-requires : goal.put_spelt-requires
-put_spelt-requires c = let z = sizes (goal.at.put_spelt-requires c).After-spell-size in (c.requires.1, c.requires.2, λ e. sym (eqb-true _ _ e) ∙ ap (λ (n : ℕ). 2 * n) z.1)
+put_spelt-requires c = let z = sizes (goal.at.put_spelt-requires c).After-spell-size in (c.requires.1, λ e. sym (eqb-true _ _ e) ∙ ap (λ (n : ℕ). 2 * n) z.1)
 
 pub returns : goal.returns
 returns c =

@@ -1,6 +1,10 @@
 use Rattle.drafts.proofs.Steps.{writes_as, maced_none, maced_zero, maced_size, maced_some}
 use borrow.Author.Tests.{not-true, not-false}
 use borrow.Author.Rules.{rules}
+use mathlib.Core.Path.{◌≡◌}
+use Prim.Native.Nat.{◌≤◌}
+use lib.ListN.{length}
+use native.Mathlib.Omega.{arith}
 use Rattle.drafts.proofs.parts.put_maced.Goals as goal
 
 pub returns-then-not-draft : goal.returns-then-not-draft
@@ -13,4 +17,6 @@ pub slice_bounds-put_digits-end : goal.slice_bounds-put_digits-end
 slice_bounds-put_digits-end c = let z = maced_size c.args.draft c.args.frame.now _ _ _ c.seal_frame-n.ensures c.if-n-eq0.false in search rules
 
 pub returns : goal.returns
-returns c = maced_some c.args.draft c.args.frame.now _ _ _ c.seal_frame-n.ensures c.if-n-eq0.false _ c.args.text.now _ _ (not-false _ c.if-not-draft.false) c.counted.ensures c.requires c.put_digits-len.ensures
+returns c =
+    let k : length c.args.text.now ≡ 1024 = search rules in
+    let room : 1024 ≤ length c.args.text.now = omega (arith, k) in maced_some c.args.draft c.args.frame.now _ _ _ c.seal_frame-n.ensures c.if-n-eq0.false _ c.args.text.now _ _ (not-false _ c.if-not-draft.false) c.counted.ensures room c.put_digits-len.ensures

@@ -1,8 +1,14 @@
 use Rattle.drafts.specs.Drafts.{unread}
 use Rattle.wire.proofs.Laws.{shows_whole}
-use mathlib.Core.Path.{refl}
+use mathlib.Core.Path.{◌≡◌, refl}
+use Prim.Native.Nat.{◌≤◌}
+use lib.ListN.{length}
+use native.Mathlib.Omega.{arith}
+use borrow.Author.Rules.{rules}
 use Rattle.drafts.proofs.parts.put_unread.Goals as goal
 
 pub returns : goal.returns
 unfolding unread
-returns c = (refl, shows_whole _ _ _ _ refl c.requires c.lay.ensures)
+returns c =
+    let k : length c.args.text.now ≡ 1024 = search rules in
+    let room : 1 ≤ length c.args.text.now = omega (arith, k) in (refl, shows_whole _ _ _ _ refl room c.lay.ensures)
