@@ -171,10 +171,7 @@ impl Card {
         if self.breaks() {
             return Reply::refused(self, Refusal::BrokenRule);
         }
-        Reply::sent(
-            self.on_channel(Channel::bare(Stage::from(session))),
-            0,
-        )
+        Reply::sent(self.on_channel(Channel::bare(Stage::from(session))), 0)
     }
 
     // A power-up ends the session and drops pending work.
