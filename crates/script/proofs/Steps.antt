@@ -27,7 +27,8 @@ use Rattle.card.specs.declared.Reply.{Reply}
 use Rattle.card.specs.Outcome.{Outcome, reply_of}
 use Rattle.desk.specs.declared.Desk.{Desk}
 use Rattle.told.specs.declared.Told.{Told}
-use Rattle.told.specs.Told.{said_of, after_event, replied}
+use Rattle.desk.specs.After.{after_event}
+use Rattle.told.specs.Told.{said_of, replied}
 use Rattle.told.specs.Laws.{Plays, reply_bytes}
 use Rattle.letters.specs.Letters.{other_said}
 use Rattle.script.specs.Lines.{commanded_on, line_said}

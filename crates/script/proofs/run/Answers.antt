@@ -1,7 +1,7 @@
 use Rattle.script.specs.Lines.{commanded_on, line_said}
 use Rattle.script.proofs.Steps.{none_found, own_state, written, line, played_full, played_next, ends, told_full, told_next}
 use Rattle.lines.proofs.Sofar.{sofar_start, sofar_end, sofar_part, sofar_as}
-use Rattle.told.specs.Told.{after_event}
+use Rattle.desk.specs.After.{after_event}
 use Rattle.told.specs.Laws.{Plays, plays_lent, reply_bytes}
 use Rattle.desk.specs.Laws.{lent_most}
 use Rattle.card.specs.Events.{commanded}
