@@ -103,9 +103,10 @@ pub fn check(
     let x = frames::data(frame);
     let places = Places::asked(opening, settings, keys, purse, log, channel, ins, x);
     command_order(places)?;
-    let maced = places.maced;
-    let role = places.role;
-    Ok(Admitted { maced, role })
+    Ok(Admitted {
+        maced: places.maced,
+        role: places.role,
+    })
 }
 
 // A frame of file bytes: the first of its two reasons.

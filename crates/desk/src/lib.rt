@@ -4,8 +4,9 @@
 ghost use Rattle.std.specs.Prelude.{◌≡◌};
 ghost use Rattle.desk.specs.Room.{lent_room};
 ghost use Rattle.desk.specs.Program.{program_card, program_desk};
+ghost use Rattle.desk.specs.After.{after_event};
 
-use card::Card;
+use card::{Card, Reply};
 use channel::Inputs;
 use keys::Keys;
 use limits::Limits;
@@ -50,6 +51,15 @@ impl Desk {
             stored: 0,
             bench,
         }
+    }
+
+    // Keeps what an event left: the card, and the count of slot bytes that it stored.
+    #[tactic(auto, unfolding(crate::specs::After::after_event))]
+    pub fn keep(&mut self, reply: &Reply)
+        ensures { self.new ≡ after_event self.old reply.now.card reply.now.stored }
+    {
+        self.card = reply.card;
+        self.stored = reply.stored;
     }
 }
 

@@ -3,11 +3,11 @@ use Prim.Native.Nat.{ℕ, ◌*◌, ◌≤◌, ◌<◌}
 use mathlib.Core.Bool.{Bool, true, false, ◌&&◌, ◌||◌}
 use mathlib.Core.List.{List}
 use mathlib.Core.Path.{◌≡◌, refl, sym, ap, ◌∙◌}
-use borrow.Author.Tests.{eqb-true, lt-ltb, le-ltb, eq-eqb, ne_eqb}
+use borrow.Author.Tests.{lt-ltb, le-ltb, eq-eqb, ne_eqb}
 use lib.Dec.{eqb, leb}
 use lib.ListN.{length, get_or, take}
 use native.Mathlib.Omega.{arith}
-use Rattle.tables.specs.Choice.{pick, picked, passed, order, and_yes, and_right}
+use Rattle.tables.specs.Choice.{pick, picked, passed, order, and_right}
 use Rattle.wire.specs.Bytes.{part, Shows}
 use Rattle.text.specs.Hex.{is_hex, spelt, leading}
 use Rattle.text.specs.Laws.{leading_all, leading_most, hex_test}
@@ -15,13 +15,6 @@ use Rattle.lines.proofs.Laws.{spelt_there, said_by}
 use Rattle.held.specs.declared.Draft.{Draft}
 use Rattle.held.specs.Held.{over, counted, sent, noted}
 use Rattle.drafts.specs.Drafts.{unread, unchanged, authenticated, maced, lettered_by, lettered, drafted}
-
--- m bytes behind a letter, where the line has 2 m digits behind it
-pub bytes_by : (m : ℕ) (a digits : Bool) (n : ℕ) (b : List ℕ) → (a && eqb n (2 * m) && digits) ≡ true → (digits ≡ true → n ≡ 2 * length b) → length b ≡ m
-bytes_by m a digits n b e h =
-    let y = and_yes (a && eqb n (2 * m)) digits e in
-    let z = eqb-true n (2 * m) (and_yes a (eqb n (2 * m)) y.0).1 in
-    omega (arith, h y.1)
 
 -- which of a letter's lines it is
 module _ (d : Draft) (line : List ℕ) (letter n : ℕ) (digits : Bool) (b : List ℕ) where

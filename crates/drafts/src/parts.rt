@@ -15,9 +15,7 @@ fn sixteen(b: &[u8], at: usize) -> [u8; 16]
     requires { at + 16 ≤ length b.now }
     ensures { result ≡ part b.now at (at + 16) }
 {
-    let mut r = [0u8; 16];
-    wire::lay(&mut r, 0, &b[at..at + 16]);
-    r
+    std::array::from_fn(|i| b[at + i])
 }
 
 // The random number and the transaction identifier of an N line.

@@ -18,7 +18,8 @@ use Rattle.lines.specs.Lines.{Said}
 use Rattle.lines.specs.Frames.{longest_line}
 use Rattle.desk.specs.declared.Desk.{Desk}
 use Rattle.desk.specs.Room.{most_room}
-use Rattle.told.specs.Told.{books_of, after_event, replied, opened_on, sent_on}
+use Rattle.desk.specs.After.{after_event}
+use Rattle.told.specs.Told.{books_of, replied, opened_on, sent_on}
 
 -- a line that does not reach the card: `?`
 unfoldable pub unread : Desk → Said Desk

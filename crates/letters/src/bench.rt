@@ -22,8 +22,7 @@ fn personalise(mut desk: Desk, b: &[u8]) -> Told
 {
     let order = Order::read(b);
     let made = Card::personalise(order.settings, order.keys, order.value);
-    desk.card = made.card;
-    desk.stored = made.stored;
+    desk.keep(&made);
     Told {
         desk,
         notice: Notice::Number(made.refusal),
@@ -35,8 +34,7 @@ fn change_session(mut desk: Desk, session: Option<u8>) -> Told
     ensures { said_of result ≡ counted desk (session_changed desk.card session) }
 {
     let changed = desk.card.change_session(session);
-    desk.card = changed.card;
-    desk.stored = changed.stored;
+    desk.keep(&changed);
     Told {
         desk,
         notice: Notice::Number(changed.refusal),

@@ -17,8 +17,7 @@ fn power_up(mut desk: Desk) -> Told
     ensures { said_of result ≡ powered desk }
 {
     let reply = desk.card.power_up();
-    desk.card = reply.card;
-    desk.stored = reply.stored;
+    desk.keep(&reply);
     Told {
         desk,
         notice: Notice::Refusal(reply.refusal),

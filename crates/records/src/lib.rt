@@ -45,7 +45,6 @@ pub fn show(log: Log, first: u32, count: u32, reply: &mut [u8]) -> usize
     if wire::is_outside(log.count as usize, first, count) {
         return 0;
     }
-    let slots = log.slots;
     let number = span(log.count, first, count);
-    lay_entries(&slots, log.place, first as usize, number, reply)
+    lay_entries(&log.slots, log.place, first as usize, number, reply)
 }

@@ -7,8 +7,7 @@ use borrow.Author.Tests.{le-leb}
 use Rattle.std.specs.Prelude.{Option, is_none}
 use Rattle.refusals.specs.declared.Refusal.{Refusal}
 use Rattle.refusals.specs.Numbers.{number_of}
-use lib.ListN.{length, drop, length-append, length-take}
-use native.Mathlib.Nat.{sub-zero}
+use lib.ListN.{length, drop, length-append}
 use native.Mathlib.Omega.{arith}
 use Rattle.tables.specs.Choice.{pick_cases, picked, passed}
 use Rattle.wire.specs.Bytes.{part}
@@ -28,7 +27,8 @@ use Rattle.card.specs.declared.Reply.{Reply}
 use Rattle.card.specs.Outcome.{Outcome, reply_of}
 use Rattle.desk.specs.declared.Desk.{Desk}
 use Rattle.told.specs.declared.Told.{Told}
-use Rattle.told.specs.Told.{said_of, after_event, replied}
+use Rattle.desk.specs.After.{after_event}
+use Rattle.told.specs.Told.{said_of, replied}
 use Rattle.told.specs.Laws.{Plays, reply_bytes}
 use Rattle.letters.specs.Letters.{other_said}
 use Rattle.script.specs.Lines.{commanded_on, line_said}
@@ -62,10 +62,6 @@ written out x n m r bytes a h room e =
     let l = length-append (reply_text r bytes) (0x0A ∷ []) in
     let p : in_room (length out - n) (reply_line r bytes) ≡ reply_line r bytes = picked _ _ (le-leb (length (reply_line r bytes)) (length out - n) (omega arith)) in
     omega (arith, a.1, ap length p)
-
--- a list read at the front of another is no longer
-pub front_holds : (x l : List ℕ) (n : ℕ) → n ≡ length x → part l 0 n ≡ x → n ≤ length l
-front_holds x l n e h = omega (arith, length-take (n - 0) l, ap length h, sub-zero n)
 
 -- a look for a frame that finds none
 pub none_found : (frame buffer : List ℕ) (found : Option ℕ) → ((n : ℕ) → found ≡ Some n → ⊥) → Found frame buffer found → frame ≡ []

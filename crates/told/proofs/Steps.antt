@@ -17,7 +17,8 @@ use Rattle.card.specs.declared.Card.{Card}
 use Rattle.card.specs.declared.Reply.{Reply}
 use Rattle.card.specs.Outcome.{Outcome, reply_of}
 use Rattle.desk.specs.declared.Desk.{Desk}
-use Rattle.told.specs.Told.{books_of, said_of, after_event, replied, framed}
+use Rattle.desk.specs.After.{after_event}
+use Rattle.told.specs.Told.{books_of, said_of, replied, framed}
 use Rattle.told.specs.Laws.{Plays, reply_bytes, Brief, Tells, opening_brief, bytes_brief}
 use Rattle.told.specs.declared.Frame.{Frame}
 use Rattle.told.specs.declared.Frame.TheVariants.{Opening, FileBytes}

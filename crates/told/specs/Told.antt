@@ -9,6 +9,7 @@ use Rattle.books.specs.declared.Books.{Books}
 use Rattle.notices.specs.Notices.{notice_text}
 use Rattle.desk.specs.declared.Desk.{Desk}
 use Rattle.desk.specs.Room.{lent_room}
+use Rattle.desk.specs.After.{after_event}
 use Rattle.told.specs.declared.Told.{Told}
 use Rattle.told.specs.declared.Frame.{Frame}
 use Rattle.told.specs.declared.Frame.TheVariants.{Opening, FileBytes}
@@ -20,10 +21,6 @@ books_of c = record { purse = c.purse; log = c.log; stage = c.channel.stage; cha
 -- what the code tells of a line; the books are those of the card after it
 unfoldable pub said_of : Told → Said Desk
 said_of r = record { next = r.desk; out = notice_text r.notice (books_of r.desk.card) }
-
--- the desk after an event that left the card c and stored n slot bytes
-unfoldable pub after_event : Desk → Card → ℕ → Desk
-after_event k c n = record { card = c; inputs = k.inputs; room = k.room; stored = n; bench = k.bench }
 
 -- the reply, or the bench refusal
 unfoldable pub replied : Desk → Outcome → Said Desk

@@ -54,8 +54,7 @@ pub fn play(mut desk: Desk, frame: Frame, b: &[u8]) -> Told
     let mut reply = [0u8; MOST_ROOM];
     let lent = desk::lent_room(desk.room);
     let played = event(desk.card, frame, b, &mut reply[0..lent]);
-    desk.card = played.card;
-    desk.stored = played.stored;
+    desk.keep(&played);
     Told {
         desk,
         notice: answer(played.refusal, &reply[0..played.len]),

@@ -2,7 +2,7 @@ use Rattle.drafts.specs.Drafts.{drafted}
 use Rattle.lines.specs.Laws.{Ends}
 use Rattle.lines.proofs.Laws.{line_ends}
 use Rattle.wire.proofs.Laws.{shows_fits, shows_there}
-use Rattle.lines.proofs.Sofar.{sofar_start, sofar_length, sofar_end, sofar_part, sofar_full, sofar_next, sofar_as}
+use Rattle.lines.proofs.Sofar.{sofar_start, sofar_end, sofar_part, sofar_full, sofar_next, sofar_as}
 use Rattle.text.specs.Shown.{in_room, Adds}
 use Rattle.wire.specs.Bytes.{part}
 use borrow.Author.Rules.{rules}
@@ -40,17 +40,8 @@ put_line c = let v = c.loop-at in
 pub loop-at-init : goal.loop-at-init
 loop-at-init c = (search rules, sofar_start drafted _ _ _)
 
-pub shape_of-out-then-e-text : goal.shape_of-out-then-e-text
-shape_of-out-then-e-text c = sofar_length drafted _ _ _ _ _ _ _ c.loop-at.invariant.1
-
 pub returns-then-e-text : goal.returns-then-e-text
 returns-then-e-text c = sofar_part drafted _ _ _ _ _ _ _ c.loop-at.invariant.1 _ (ends (goal.at.returns-then-e-text c).After-line_end-e).0 c.if-e-text.true
-
-pub slice_bounds-write_line-count : goal.slice_bounds-write_line-count
-slice_bounds-write_line-count c = omega (arith, (ends (goal.at.slice_bounds-write_line-count c).After-line_end-e).1)
-
-pub slice_bounds-write_line-start : goal.slice_bounds-write_line-start
-slice_bounds-write_line-start c = omega (arith, (ends (goal.at.slice_bounds-write_line-start c).After-line_end-e).1)
 
 pub slice_bounds-write_line-end : goal.slice_bounds-write_line-end
 slice_bounds-write_line-end c = omega (arith, (ends (goal.at.slice_bounds-write_line-end c).After-line_end-e).2)
@@ -60,27 +51,15 @@ slice_bounds-put-end c =
     let p = (goal.at.slice_bounds-put-end c).After-write_line-step in
     omega (arith, (written p).0, (written p).1)
 
-pub shape_of-out-then-put-n : goal.shape_of-out-then-put-n
-shape_of-out-then-put-n c = c.put-put.auto.out ∙ sofar_length drafted _ _ _ _ _ _ _ c.loop-at.invariant.1
-
 pub returns-then-put-n : goal.returns-then-put-n
 returns-then-put-n c =
     let p = (goal.at.returns-then-put-n c).After-line_end-e in
     let v = c.loop-at in sofar_full drafted _ _ _ _ _ _ _ v.invariant.1 _ (ends p).0 (ends p).1 (inside (goal.at.returns-then-put-n c).Else-e-text) _ _ (put_line (goal.at.returns-then-put-n c).After-put-put) c.if-put-n.true
 
-pub overflow_add-at : goal.overflow_add-at
-overflow_add-at c = record { fits = omega (arith, inside (goal.at.overflow_add-at c).Else-e-text, c.well_formed) }
-
-pub loop-at-smaller : goal.loop-at-smaller
-loop-at-smaller c = omega (arith, inside (goal.at.loop-at-smaller c).Else-e-text, (ends (goal.at.loop-at-smaller c).After-line_end-e).1)
-
 pub loop-at-preserved : goal.loop-at-preserved
 loop-at-preserved c =
     let p = (goal.at.loop-at-preserved c).After-line_end-e in
     let v = c.loop-at in let w = c.write_line-step in (search rules, sofar_as drafted _ _ _ _ _ _ _ _ w.ensures.0 (sofar_next drafted _ _ _ _ _ _ _ v.invariant.1 _ (ends p).0 (ends p).1 (inside (goal.at.loop-at-preserved c).Else-e-text) _ _ (put_line (goal.at.loop-at-preserved c).After-put-put) c.if-put-n.false))
-
-pub shape_of-out : goal.shape_of-out
-shape_of-out c = sofar_length drafted _ _ _ _ _ _ _ c.loop-at.invariant.1
 
 pub returns : goal.returns
 returns c = sofar_end drafted _ _ _ _ _ _ _ c.loop-at.invariant.1 c.loop-at-test.false

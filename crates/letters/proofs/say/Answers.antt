@@ -2,8 +2,6 @@ use Rattle.notices.specs.Notices.{notice_text}
 use Rattle.told.specs.Told.{said_of}
 use Rattle.letters.specs.Letters.{unread, other_said, lettered}
 use Rattle.wire.specs.Bytes.{part}
-use Rattle.wire.proofs.Laws.{length_part}
-use native.Mathlib.Omega.{arith}
 use Rattle.tables.specs.Choice.{picked, passed}
 use borrow.Author.Tests.{lt-ltb, le-ltb, eq-eqb, ne_eqb}
 use lib.ListN.{length}
@@ -17,9 +15,6 @@ returns-then-n-gt-LONGEST_LINE c = sym (picked _ _ (lt-ltb _ _ c.if-n-gt-LONGEST
 pub returns-then-n-eq0 : goal.returns-then-n-eq0
 unfolding other_said
 returns-then-n-eq0 c = c.power_up.ensures ∙ sym (passed _ _ (le-ltb _ _ c.if-n-gt-LONGEST_LINE.false) ∙ picked _ _ (eq-eqb _ _ c.if-n-eq0.true))
-
-pub say_lettered-requires : goal.say_lettered-requires
-say_lettered-requires c = let l = c.args.line.now in omega (arith, length_part l 1 (length l) (omega arith), c.if-n-gt-LONGEST_LINE.false)
 
 pub returns-then-desk : goal.returns-then-desk
 unfolding other_said

@@ -1,7 +1,7 @@
 use Rattle.script.specs.Lines.{commanded_on, line_said}
-use Rattle.script.proofs.Steps.{front_holds, none_found, own_state, written, line, played_full, played_next, ends, told_full, told_next}
-use Rattle.lines.proofs.Sofar.{sofar_start, sofar_length, sofar_end, sofar_part, sofar_as}
-use Rattle.told.specs.Told.{after_event}
+use Rattle.script.proofs.Steps.{none_found, own_state, written, line, played_full, played_next, ends, told_full, told_next}
+use Rattle.lines.proofs.Sofar.{sofar_start, sofar_end, sofar_part, sofar_as}
+use Rattle.desk.specs.After.{after_event}
 use Rattle.told.specs.Laws.{Plays, plays_lent, reply_bytes}
 use Rattle.desk.specs.Laws.{lent_most}
 use Rattle.card.specs.Events.{commanded}
@@ -63,14 +63,6 @@ end k = let l = ends _ _ _ _ _ _ _ k.loop-at.invariant.1 (none k) _ k.line_end-e
 pub loop-at-init : goal.loop-at-init
 loop-at-init c = (search rules, sofar_as line_said _ _ _ _ _ _ _ _ (own_state _) (sofar_start line_said _ _ _))
 
-pub overflow_sub-out : goal.overflow_sub-out
-overflow_sub-out c =
-    let s = c.loop-at.invariant.1 in
-    omega (arith, s.room, sofar_length line_said _ _ _ _ _ _ _ s)
-
-pub slice_bounds-command-end : goal.slice_bounds-command-end
-slice_bounds-command-end c = let found = c.in-Some.ensures.frame in omega (arith, front_holds _ _ _ found.1 found.2)
-
 pub slice_bounds-reply-end : goal.slice_bounds-reply-end
 slice_bounds-reply-end c =
     let v = c.loop-at in
@@ -80,9 +72,6 @@ pub slice_bounds-put_line-end : goal.slice_bounds-put_line-end
 slice_bounds-put_line-end c =
     let p = (goal.at.slice_bounds-put_line-end c).After-command-played in
     omega (arith, (reply_bytes _ _ _ (plays p)).1, buffer_length p)
-
-pub shape_of-out-then-put-n : goal.shape_of-out-then-put-n
-shape_of-out-then-put-n c = c.put_line-put.auto.out ∙ sofar_length line_said _ _ _ _ _ _ _ c.loop-at.invariant.1
 
 -- for want of room the desk has had its card before; else there was room
 pub returns-then-put-n : goal.returns-then-put-n
@@ -96,18 +85,6 @@ returns-then-put-n c =
       | else-out-n-lt-MOST_ANSWER w ↦ absurd (written v.out _ v.n _ _ (replied p) c.put_line-put.ensures (replied_most p) w.if-out-n-lt-MOST_ANSWER.false c.if-put-n.true)
     ]
 
-pub overflow_mul-at : goal.overflow_mul-at
-overflow_mul-at c = omega (arith, (inside (goal.at.overflow_mul-at c).In-Some).0)
-
-pub overflow_add-at : goal.overflow_add-at
-overflow_add-at c = record { fits = omega (arith, (inside (goal.at.overflow_add-at c).In-Some).1, c.well_formed) }
-
-pub overflow_add-at-in-Some : goal.overflow_add-at-in-Some
-overflow_add-at-in-Some c = record { fits = omega (arith, (inside (goal.at.overflow_add-at-in-Some c).In-Some).1, c.well_formed) }
-
-pub loop-at-smaller-in-Some : goal.loop-at-smaller-in-Some
-loop-at-smaller-in-Some c = omega (arith, (inside (goal.at.loop-at-smaller-in-Some c).In-Some).1)
-
 pub loop-at-preserved-in-Some : goal.loop-at-preserved-in-Some
 unfolding after_event
 loop-at-preserved-in-Some c =
@@ -117,32 +94,16 @@ loop-at-preserved-in-Some c =
     let next = played_next a.desk a.text.now a.out.now (here v.desk v.played) v.at v.n v.out v.invariant.1 _ c.in-Some.ensures.frame.0 c.in-Some.ensures.frame.1 _ c.in-Some.ensures.frame.2 (buffer p) _ (plays p) _ _ c.put_line-put.ensures c.if-put-n.false in
     (buffer_length p, elim c.if-out-n-lt-MOST_ANSWER.branch [ then-out-n-lt-MOST_ANSWER w ↦ rw w.desk-is next | else-out-n-lt-MOST_ANSWER w ↦ rw w.desk-is next ])
 
-pub shape_of-out-then-e-text : goal.shape_of-out-then-e-text
-shape_of-out-then-e-text c = sofar_length line_said _ _ _ _ _ _ _ c.loop-at.invariant.1
-
 pub returns-then-e-text : goal.returns-then-e-text
 unfolding after_event
 returns-then-e-text c =
     let l = ends _ _ _ _ _ _ _ c.loop-at.invariant.1 (none (goal.at.returns-then-e-text c).After-line_end-e) _ c.line_end-e.ensures in
     sofar_part line_said _ _ _ _ _ _ _ c.loop-at.invariant.1 _ l.0 c.if-e-text.true
 
-pub slice_bounds-say-count : goal.slice_bounds-say-count
-slice_bounds-say-count c =
-    let p = (goal.at.slice_bounds-say-count c).After-line_end-e in
-    omega (arith, (end p).0, (end p).1)
-
-pub slice_bounds-say-start : goal.slice_bounds-say-start
-slice_bounds-say-start c =
-    let p = (goal.at.slice_bounds-say-start c).After-line_end-e in
-    omega (arith, (end p).0, (end p).1)
-
 pub slice_bounds-say-end : goal.slice_bounds-say-end
 slice_bounds-say-end c =
     let p = (goal.at.slice_bounds-say-end c).After-line_end-e in
     omega (arith, (end p).0, (end p).1)
-
-pub shape_of-out-then-put-n-2 : goal.shape_of-out-then-put-n-2
-shape_of-out-then-put-n-2 c = c.put_told-put.auto.out ∙ sofar_length line_said _ _ _ _ _ _ _ c.loop-at.invariant.1
 
 pub returns-then-put-n-2 : goal.returns-then-put-n-2
 unfolding after_event
@@ -151,23 +112,12 @@ returns-then-put-n-2 c =
     let a = c.args in
     told_full a.desk a.text.now a.out.now (here v.desk v.played) v.at v.n v.out v.invariant.1 (none (goal.at.returns-then-put-n-2 c).After-line_end-e) _ c.line_end-e.ensures (omega (arith, (end (goal.at.returns-then-put-n-2 c).After-line_end-e).1, c.if-e-text.false)) _ c.say-told.ensures _ _ c.put_told-put.ensures c.if-put-n-2.true
 
-pub overflow_add-at-in-loop-at : goal.overflow_add-at-in-loop-at
-overflow_add-at-in-loop-at c = record { fits = omega (arith, (end (goal.at.overflow_add-at-in-loop-at c).After-line_end-e).1, c.if-e-text.false, c.well_formed) }
-
-pub loop-at-smaller : goal.loop-at-smaller
-loop-at-smaller c =
-    let p = (goal.at.loop-at-smaller c).After-line_end-e in
-    omega (arith, (end p).0, (end p).1, c.if-e-text.false)
-
 pub loop-at-preserved : goal.loop-at-preserved
 unfolding after_event
 loop-at-preserved c =
     let v = c.loop-at in
     let a = c.args in
     (v.invariant.0, told_next a.desk a.text.now a.out.now (here v.desk v.played) v.at v.n v.out v.invariant.1 (none (goal.at.loop-at-preserved c).After-line_end-e) _ c.line_end-e.ensures (omega (arith, (end (goal.at.loop-at-preserved c).After-line_end-e).1, c.if-e-text.false)) _ c.say-told.ensures _ _ c.put_told-put.ensures c.if-put-n-2.false)
-
-pub shape_of-out : goal.shape_of-out
-shape_of-out c = sofar_length line_said _ _ _ _ _ _ _ c.loop-at.invariant.1
 
 pub returns : goal.returns
 unfolding after_event

@@ -1,6 +1,6 @@
 use Rattle.script.specs.Lines.{line_said}
 use Rattle.lines.specs.Sofar.{Sofar}
-use Rattle.told.specs.Told.{after_event}
+use Rattle.desk.specs.After.{after_event}
 use lib.ListN.{length}
 use Prim.Native.Nat.{◌-◌}
 use mathlib.Core.Path.{◌≡◌}

@@ -1,4 +1,3 @@
-use Rattle.frames.specs.Laws.{length_data}
 use Rattle.till.specs.Laws.{in_short, in_long, in_full}
 use Rattle.sealed.proofs.Laying.{sealed_shown}
 use Rattle.wire.proofs.Laws.{shows_as, shows_none}
@@ -15,9 +14,6 @@ returns-then-frame-gt253 c = let a = c.args in shows_as _ _ _ _ _ (sym (in_long 
 
 pub returns-then-out-d : goal.returns-then-out-d
 returns-then-out-d c = let a = c.args in shows_as _ _ _ _ _ (sym (in_full (length a.out.now) a.key a.ti a.counter a.frame.now c.if-frame-lt5.false (omega (arith, c.if-out-d.true, ap length c.data-d.ensures)))) (shows_none a.out.now)
-
-pub put_parts-requires : goal.put_parts-requires
-put_parts-requires c = let a = c.args in let l = length_data a.frame.now in let e = ap length c.data-d.ensures in (c.if-frame-lt5.false, omega (arith, c.if-frame-gt253.false), c.if-out-d.false)
 
 pub returns : goal.returns
 returns c = let a = c.args in sealed_shown (length a.out.now) a.key a.ti a.counter a.frame.now a.out.now c.if-frame-lt5.false c.if-frame-gt253.false c.if-out-d.false c.data-d.ensures c.byte_at.ensures c.seal-mac.ensures c.put_parts.ensures

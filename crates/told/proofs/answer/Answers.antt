@@ -1,12 +1,8 @@
 use Rattle.told.proofs.Steps.{tells_none, tells_two}
-use native.Mathlib.Omega.{arith}
 use Rattle.told.proofs.answer.Goals as goal
 
 pub returns-then-reply-eq0 : goal.returns-then-reply-eq0
 returns-then-reply-eq0 c = let a = c.args in tells_none a.refusal a.reply.now c.if-reply-eq0.true
-
-pub bounds-reply-1 : goal.bounds-reply-1
-bounds-reply-1 c = omega (arith, (c.requires c.if-reply-eq0.false).1)
 
 pub returns : goal.returns
 returns c =

@@ -1,5 +1,5 @@
 use Rattle.told.proofs.Steps.{frame_brief, replied_by}
-use Rattle.told.specs.Told.{after_event, framed}
+use Rattle.told.specs.Told.{framed}
 use Rattle.told.specs.Laws.{Plays, Brief, plays_lent, reply_bytes}
 use Rattle.desk.specs.Laws.{lent_most}
 use Rattle.card.specs.declared.Reply.{Reply}
@@ -50,7 +50,6 @@ answer-requires c =
     rw (m, b) (brief p)
 
 pub returns : goal.returns
-unfolding after_event
 returns c =
     let p = (goal.at.returns c).After-event-played in
-    replied_by c.args.desk (outcome p) (buffer p) c.event-played.result _ (plays p) c.answer.ensures
+    rw c.keep.ensures (replied_by c.args.desk (outcome p) (buffer p) c.event-played.result _ (plays p) c.answer.ensures)

@@ -130,18 +130,12 @@ returns-then-shows c =
 pub seal-len-requires : goal.seal-len-requires
 seal-len-requires c = (pick_both (λ n. 0 + n ≤ 256) _ 8 0 (omega arith) (omega arith), room (goal.at.seal-len-requires c).After-plain-d)
 
-pub shape_of-reply-then-ins-2 : goal.shape_of-reply-then-ins-2
-shape_of-reply-then-ins-2 c = as_long (goal.at.shape_of-reply-then-ins-2 c).Joined-maced
-
 pub returns-then-ins-2 : goal.returns-then-ins-2
 returns-then-ins-2 c =
     let p = (goal.at.returns-then-ins-2 c).After-plain-d in
     let w = wrote (card p) (inputs p) _ _ c.plain-d.result.now _ c.if-ins-2.true c.next_files.ensures c.counted-next.ensures in
     answered_by _ _ _ c.sent.ensures
     (command_quiet (card p) (frame p) (inputs p) (buffer p) (room p) (sound p) (taken p) (maced p) (role p) c.byte_at-ins.ensures c.data.ensures c.plain-d.ensures (ne_eqb _ _ c.if-ins-eq-AUTHENTICATE_FIRST.false) (ne_eqb _ _ c.if-ins.false) (sym c.shows.ensures ∙ c.if-shows.false) (write_stores_none (card p) c.if-ins-2.true) w c.counted-next.ensures (sealed (goal.at.returns-then-ins-2 c).Joined-maced))
-
-pub shape_of-reply : goal.shape_of-reply
-shape_of-reply c = as_long (goal.at.shape_of-reply c).Joined-maced
 
 pub returns : goal.returns
 unfolding put_stored view

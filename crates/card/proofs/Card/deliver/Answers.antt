@@ -2,9 +2,6 @@ use Rattle.card.proofs.Laws.{answered_by, delivers}
 use mathlib.Core.Path.{refl}
 use Rattle.card.proofs.Card.deliver.Goals as goal
 
-pub close_last-len-requires : goal.close_last-len-requires
-close_last-len-requires c = c.requires
-
 pub returns : goal.returns
 returns c =
     let a = c.args in

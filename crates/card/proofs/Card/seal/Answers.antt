@@ -24,8 +24,5 @@ close-requires c = let h = maced_room (goal.at.close-requires c).Then-maced in o
 pub returns-then-maced : goal.returns-then-maced
 returns-then-maced c = let l : length c.seal-mac.result ≡ 8 = long (goal.at.returns-then-maced c).After-seal-mac in sealed_maced c.args.channel c.args.n c.args.reply.now c.requires.1 c.if-maced.true (maced_room (goal.at.returns-then-maced c).Then-maced) c.counter.ensures l (c.seal-mac.ensures ∙ ap (λ (k : ℕ). seal_of c.args.channel.secret 0x00 c.counter.result c.args.channel.ti (take k c.args.reply.now)) (sub-zero c.args.n)) c.lay.ensures c.close.ensures.0 c.close.ensures.1
 
-pub close-requires-2 : goal.close-requires-2
-close-requires-2 c = let h = c.requires.0 in omega arith
-
 pub returns : goal.returns
 returns c = sealed_plain c.args.channel c.args.n c.args.reply.now c.requires.1 c.if-maced.false (omega arith) c.close-2.ensures.0 c.close-2.ensures.1

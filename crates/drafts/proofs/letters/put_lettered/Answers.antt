@@ -3,7 +3,6 @@ use Rattle.drafts.proofs.Lettered.{spelt_size, lettered_by_lem}
 use Rattle.drafts.specs.Drafts.{lettered_by}
 use Rattle.wire.specs.Bytes.{part}
 use Rattle.wire.proofs.Laws.{length_part}
-use borrow.Author.Tests.{eqb-true}
 use lib.Dec.{eqb}
 use lib.ListN.{length, get_or, replicate}
 use Prim.Native.Nat.{ℕ, ◌-◌, ◌*◌, ◌≤◌}
@@ -30,9 +29,6 @@ overflow_mul-digits c = omega (arith, (sizes (goal.at.overflow_mul-digits c).Aft
 
 pub slice_bounds-put_spelt-end : goal.slice_bounds-put_spelt-end
 slice_bounds-put_spelt-end c = let z = sizes (goal.at.slice_bounds-put_spelt-end c).After-spell-size in let k = c.spell-size.auto.out in search rules
-
-pub put_spelt-requires : goal.put_spelt-requires
-put_spelt-requires c = let z = sizes (goal.at.put_spelt-requires c).After-spell-size in (c.requires.1, λ e. sym (eqb-true _ _ e) ∙ ap (λ (n : ℕ). 2 * n) z.1)
 
 pub returns : goal.returns
 returns c =

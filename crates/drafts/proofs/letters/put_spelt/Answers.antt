@@ -1,22 +1,15 @@
 use Rattle.drafts.proofs.Steps.{writes_as}
-use Rattle.drafts.proofs.Lettered.{bytes_by, by_m, by_a, by_n, by_c, by_over, by_other}
+use Rattle.drafts.proofs.Lettered.{by_m, by_a, by_n, by_c, by_over, by_other}
 use Rattle.drafts.specs.Drafts.{unchanged}
 use Rattle.held.specs.declared.Draft.{Draft}
-use lib.Dec.{eqb}
 use mathlib.Core.Path.{ap, ◌∙◌}
 use Rattle.drafts.proofs.letters.put_spelt.Goals as goal
 
 pub returns-then-letter-digits : goal.returns-then-letter-digits
 returns-then-letter-digits c = let a = c.args in writes_as a.text.now _ _ (by_m a.draft a.line.now a.letter a.n a.digits a.b.now c.if-letter-digits.true) c.put_maced.ensures
 
-pub put_authenticated-requires : goal.put_authenticated-requires
-put_authenticated-requires c = let a = c.args in bytes_by 33 (eqb a.letter 0x41) a.digits a.n a.b.now c.if-letter-n.true c.requires.1
-
 pub returns-then-letter-n : goal.returns-then-letter-n
 returns-then-letter-n c = let a = c.args in writes_as a.text.now _ _ (by_a a.draft a.line.now a.letter a.n a.digits a.b.now c.if-letter-digits.false c.if-letter-n.true) c.put_authenticated.ensures
-
-pub noted-requires : goal.noted-requires
-noted-requires c = let a = c.args in bytes_by 20 (eqb a.letter 0x4E) a.digits a.n a.b.now c.if-letter-n-2.true c.requires.1
 
 pub returns-then-letter-n-2 : goal.returns-then-letter-n-2
 returns-then-letter-n-2 c = let a = c.args in writes_as a.text.now _ _ (ap (λ (d : Draft). unchanged d a.line.now) c.noted.ensures ∙ by_n a.draft a.line.now a.letter a.n a.digits a.b.now c.if-letter-digits.false c.if-letter-n.false c.if-letter-n-2.true) c.put_same.ensures

@@ -8,9 +8,6 @@ use mathlib.Core.Path.{◌≡◌, refl, ap, ◌∙◌}
 use borrow.Author.Rules.{rules}
 use Rattle.letters.proofs.bench.say_kind.Goals as goal
 
-pub hand_in-requires : goal.hand_in-requires
-hand_in-requires c = c.requires (search rules)
-
 pub returns-in-Order : goal.returns-in-Order
 unfolding lettered_by
 returns-in-Order c = let e : c.args.kind ≡ Order = search rules in rw e c.personalise.ensures
