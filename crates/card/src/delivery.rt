@@ -41,7 +41,7 @@ impl Card {
         );
         let admitted = match checked {
             Ok(admitted) => admitted,
-            Err(status) => return self.refuse(status, reply),
+            Err(refused) => return self.refuse(refused.status, reply),
         };
         let next = channel.chained(Chain::announced(admitted.role, frames::data(frame)));
         Reply::sent(self.on_channel(next), 0)

@@ -125,7 +125,7 @@ impl Card {
         );
         let admitted = match checked {
             Ok(admitted) => admitted,
-            Err(status) => return self.refuse(status, reply),
+            Err(refused) => return self.refuse(refused.status, reply),
         };
         let maced = admitted.maced;
         let role = admitted.role;

@@ -1,14 +1,16 @@
 -- The order of checks over what the code's tests answer, and that it is the rows'.
-use Rattle.std.specs.Prelude.{ℕ, Bool, true, ◌≡◌, Result, Ok, Err, IsErrAnd, IfOk, not, eqb, length, drop}
+use Rattle.std.specs.Prelude.{ℕ, Bool, true, ◌≡◌, Result, Ok, Err, IsErrAnd, not, eqb, length, drop}
 use Rattle.std.proofs.Math.Bool.{false}
 use mathlib.Core.List.{List, [], ◌∷◌}
 use Rattle.std.proofs.Math.Path.{refl, ap}
 use Rattle.std.proofs.Common.{sym, ◌∙◌}
 use Rattle.std.proofs.lemmas.Bool.{eqb-false}
 use Rattle.std.proofs.lemmas.Result.{err_from_is_err_and}
-use Rattle.tables.specs.Choice.{pick}
-use Rattle.tables.specs.Reasons.{Reason, ◌when◌, first, no_reason, first_refuses, first_passes}
+use borrow.Author.Tests.{eq-eqb, ne_eqb}
+use Rattle.tables.specs.Choice.{pick, hit, skip, picked}
+use Rattle.tables.specs.Reasons.{Reason, ◌when◌, first, no_reason, none_first, first_half, first_refuses, first_passes}
 use Rattle.reasons.specs.First.{first_of}
+use Rattle.roles.specs.declared.Role.TheVariants.{NoFile}
 use Rattle.frames.specs.declared.Faults.{Faults}
 use Rattle.frames.specs.Faults.{faults_of}
 use Rattle.frames.specs.Frame.{ins_of, data_of, wrong_size, wrong_class, wrong_parameters, wrong_frame}
@@ -22,7 +24,8 @@ use Rattle.rows.specs.Rows.{carries_mac, rows_for, ok, status_for, command_statu
 use Rattle.checks.specs.declared.Status.{Status}
 use Rattle.checks.specs.declared.Status.TheVariants.{WrongLength, WrongClass, WrongParameters, UnknownCommand, Aborted, DataLength, NoSuchFile, Denied, NotGranted, Integrity, BadParameter, Outside, NothingPending}
 use Rattle.checks.specs.declared.Admitted.{Admitted}
-use Rattle.checks.specs.Order.{word_of, told, command_order, frame_order, frame_part, in_order, admitted_of}
+use Rattle.checks.specs.declared.Refused.{Refused}
+use Rattle.checks.specs.Order.{word_of, told, Checked, left_by, nameless, command_order, frame_order, frame_part, framed, in_order, maced_for, role_for, checked_of, admitted_of}
 
 -- no refusal's status is ok
 pub word_not_ok : (s : Status) → word_of s ≡ ok → ⊥
@@ -56,12 +59,6 @@ unfolding first_of
 told_first [] = refl
 told_first (r ∷ rs) = told_pick r.0 r.1 (first_of rs) ∙ ap (pick r.0 (word_of r.1)) (told_first rs)
 
--- what a `?` hands on
-pub told_on : {A : Type 0} (r : Result A Status) (s : Status) → IsErrAnd r (λ e. e ≡ s) → told r ≡ word_of s
-told_on r s p =
-    let (e, is, q) = err_from_is_err_and r p in
-    ap told is ∙ ap word_of q
-
 -- ---- a frame
 
 command_by : (o : Bool) (c : Core) (i : ℕ) (d : List ℕ) {r : ℕ} {p : Places} → p ≡ places_of o c i d → r ≡ in_order p → r ≡ command_status o c i d
@@ -87,44 +84,53 @@ module _ (o : Bool) (c : Core) (f : List ℕ) where
     unfolding status_for command_status rows_for frames
     frame_passes z ei ed k q = command_by o c _ _ k q ∙ rw (ei, ed) (sym (first_passes frames (drop 4 (rows_for o c [] (ins_of f) (data_of f))) ok (no_reason frames ok refl (sym by_frame ∙ z))))
 
+    pub frame_refused : (s ≡ ok → ⊥) → record { status = s; maced = false; role = NoFile } ≡ checked_of o c f
+    unfolding checked_of maced_for role_for framed frame_order frames
+    frame_refused n =
+        let e = ne_eqb (first frames ok) ok (λ q. n (by_frame ∙ q)) in
+        λ i. record { status = frame_refuses n i; maced = skip _ (carries_mac o c (ins_of f) (data_of f)) false e refl i; role = skip _ (role_in c.settings (data_of f)) NoFile e refl i }
+
+    pub frame_passed : {r i : ℕ} {d : List ℕ} {p : Places} → s ≡ ok → i ≡ ins_of f → d ≡ data_of f → p ≡ places_of o c i d → r ≡ in_order p
+        → record { status = r; maced = p.maced; role = p.role } ≡ checked_of o c f
+    unfolding checked_of maced_for role_for framed frame_order frames places_of places_under
+    frame_passed {p = p} z ei ed k q =
+        let e = eq-eqb (first frames ok) ok (sym by_frame ∙ z) in
+        let a : p.maced ≡ carries_mac o c (ins_of f) (data_of f) = rw (k, ei, ed) refl in
+        let b : p.role ≡ role_in c.settings (data_of f) = rw (k, ed) refl in
+        λ j. record { status = frame_passes z ei ed k q j; maced = hit _ _ false e a j; role = hit _ _ NoFile e b j }
+
   -- what an accepted frame carries on
   pub admits : {i : ℕ} {d : List ℕ} {p : Places} → i ≡ ins_of f → d ≡ data_of f → p ≡ places_of o c i d → record { maced = p.maced; role = p.role } ≡ admitted_of o c f
   unfolding places_of places_under
   admits ei ed k = rw (k, ei, ed) refl
 
--- ---- what a frame is answered
+  pub status_told : {r : Checked} → r ≡ checked_of o c f → r.status ≡ status_for o c f
+  unfolding checked_of
+  status_told e = ap (λ (r : Checked). r.status) e
 
--- r is what the order answers to the frame f
-abbrev pub Checks : Bool → Core → List ℕ → Result Admitted Status → Type 0
-Checks o c f r = (told r ≡ status_for o c f) × IfOk r (λ a. a ≡ admitted_of o c f)
+  -- what an accepted frame has
+  passes : status_for o c f ≡ ok → framed f ≡ true
+  unfolding framed frame_order frames status_for rows_for
+  passes z = eq-eqb _ ok (none_first frames ok (first_half frames (drop 4 (rows_for o c [] (ins_of f) (data_of f))) (no_reason (rows_for o c f (ins_of f) (data_of f)) ok refl z)))
 
-module _ (o : Bool) (c : Core) (f : List ℕ) where
-  module _ {s : ℕ} {v : Faults} (ev : v ≡ faults_of f) (e : s ≡ frame_order v.size v.class v.parameters v.frame) where
-    pub frame_refused : (x : Status) → s ≡ word_of x → Checks o c f (Err x)
-    frame_refused x q = (sym q ∙ frame_refuses o c f ev e (λ z. word_not_ok x (sym q ∙ z)), tt)
+  pub maced_told : {r : Checked} → r ≡ checked_of o c f → status_for o c f ≡ ok → r.maced ≡ carries_mac o c (ins_of f) (data_of f)
+  unfolding checked_of maced_for
+  maced_told e z = ap (λ (r : Checked). r.maced) e ∙ picked _ _ (passes z)
 
-    -- behind places 1 to 4: a refusal, and none
-    pub frame_passed : {i : ℕ} {d : List ℕ} {p : Places} → s ≡ ok → i ≡ ins_of f → d ≡ data_of f → p ≡ places_of o c i d
-        → ((x : Status) → word_of x ≡ in_order p → Checks o c f (Err x)) × (ok ≡ in_order p → Checks o c f (Ok (record { maced = p.maced; role = p.role })))
-    frame_passed z ei ed k = ((λ x q. (frame_passes o c f ev e z ei ed k q, tt)), (λ q. (frame_passes o c f ev e z ei ed k q, admits o c f ei ed k)))
+  pub role_told : {r : Checked} → r ≡ checked_of o c f → status_for o c f ≡ ok → r.role ≡ role_in c.settings (data_of f)
+  unfolding checked_of role_for
+  role_told e z = ap (λ (r : Checked). r.role) e ∙ picked _ _ (passes z)
 
-  pub status_told : (r : Result Admitted Status) → Checks o c f r → told r ≡ status_for o c f
-  status_told r h = h.0
+  -- what a `?` hands on of places 1 to 4
+  pub handed_on : (r : Result Admitted Refused) (s : Status) → IsErrAnd r (λ e. e ≡ nameless s) → left_by (Err (nameless s)) ≡ checked_of o c f → left_by r ≡ checked_of o c f
+  handed_on r s p h =
+      let (e, is, q) = err_from_is_err_and r p in
+      ap left_by is ∙ ap (λ x. left_by (Err x)) q ∙ h
 
   -- an accepted frame is answered what its command takes on
-  pub admitted_told : (r : Result Admitted Status) → Checks o c f r → status_for o c f ≡ ok → (a : Admitted) × (r ≡ Ok a) × (a ≡ admitted_of o c f)
-  admitted_told (Ok a) h z = (a, refl, h.1)
-  admitted_told (Err x) h z = absurd (word_not_ok x (h.0 ∙ z))
-
-  pub maced_told : (r : Result Admitted Status) → Checks o c f r → status_for o c f ≡ ok → (a : Admitted) × (r ≡ Ok a) × (a.maced ≡ carries_mac o c (ins_of f) (data_of f))
-  maced_told r h z =
-      let (a, q, e) = admitted_told r h z in
-      (a, q, ap (λ (x : Admitted). x.maced) e)
-
-  pub role_told : (r : Result Admitted Status) → Checks o c f r → status_for o c f ≡ ok → (a : Admitted) × (r ≡ Ok a) × (a.role ≡ role_in c.settings (data_of f))
-  role_told r h z =
-      let (a, q, e) = admitted_told r h z in
-      (a, q, ap (λ (x : Admitted). x.role) e)
+  pub admitted_told : (r : Result Admitted Refused) → left_by r ≡ checked_of o c f → status_for o c f ≡ ok → (a : Admitted) × (r ≡ Ok a) × (a ≡ admitted_of o c f)
+  admitted_told (Ok a) h z = (a, refl, λ i. record { maced = maced_told h z i; role = role_told h z i })
+  admitted_told (Err x) h z = absurd (word_not_ok x.status (status_told h ∙ z))
 
 -- ---- a frame of file bytes
 

@@ -1,15 +1,20 @@
 -- The order of checks over what the code's tests answer, in the two parts in which it asks them.
-use Rattle.std.specs.Prelude.{ℕ, Bool, Result, Ok, Err}
+use Rattle.std.specs.Prelude.{ℕ, Bool, Result, Ok, Err, eqb}
+use Rattle.std.proofs.Math.Bool.{false}
 use mathlib.Core.List.{List, [], ◌∷◌}
+use Rattle.tables.specs.Choice.{pick}
 use Rattle.tables.specs.Reasons.{Reason, ◌when◌, first}
-use Rattle.frames.specs.Frame.{ins_of, data_of}
+use Rattle.roles.specs.declared.Role.{Role}
+use Rattle.roles.specs.declared.Role.TheVariants.{NoFile}
+use Rattle.frames.specs.Frame.{ins_of, data_of, wrong_size, wrong_class, wrong_parameters, wrong_frame}
 use Rattle.commands.specs.declared.Places.{Places}
 use Rattle.rows.specs.State.{Core}
 use Rattle.modes.specs.Modes.{role_in}
-use Rattle.rows.specs.Rows.{carries_mac, ok}
+use Rattle.rows.specs.Rows.{carries_mac, ok, status_for}
 use Rattle.checks.specs.declared.Status.{Status}
 use Rattle.checks.specs.declared.Status.TheVariants.{WrongLength, WrongClass, WrongParameters, UnknownCommand, Aborted, DataLength, NoSuchFile, Denied, NotGranted, Integrity, BadParameter, Outside, NothingPending}
 use Rattle.checks.specs.declared.Admitted.{Admitted}
+use Rattle.checks.specs.declared.Refused.{Refused}
 
 -- the status words
 abbrev pub word_of : Status → ℕ
@@ -31,6 +36,21 @@ word_of NothingPending = 0x910C
 abbrev pub told : {A : Type 0} → Result A Status → ℕ
 told (Ok a) = ok
 told (Err s) = word_of s
+
+-- what the order of checks leaves: the status, whether the frame's command carries a MAC, and the role of the file that it names
+pub record Checked : Type 0 where
+  pub status : ℕ
+  pub maced : Bool
+  pub role : Role
+
+-- what a frame's answer says that it left
+abbrev pub left_by : Result Admitted Refused → Checked
+left_by (Ok a) = record { status = ok; maced = a.maced; role = a.role }
+left_by (Err r) = record { status = word_of r.status; maced = r.maced; role = r.role }
+
+-- a frame that is refused at places 1 to 4
+abbrev pub nameless : Status → Refused
+nameless s = record { status = s; maced = false; role = NoFile }
 
 -- places 1 to 4
 abbrev pub frame_part : Bool → Bool → Bool → Bool → List Reason
@@ -61,6 +81,20 @@ command_order command waits length file kind grant chain seal off value range no
 abbrev pub in_order : Places → ℕ
 in_order p =
     command_order p.command p.waits p.length p.file p.kind p.grant p.chain p.seal p.off p.value p.range p.nothing
+
+-- a frame that is refused at places 1 to 4 names no command and no file
+unfoldable pub framed : List ℕ → Bool
+framed f = eqb (frame_order (wrong_size f) (wrong_class f) (wrong_parameters f) (wrong_frame f)) ok
+
+-- whether the frame's command carries a MAC, and the role of the file that it names
+unfoldable pub maced_for : Bool → Core → List ℕ → Bool
+maced_for o c f = pick (framed f) (carries_mac o c (ins_of f) (data_of f)) false
+
+unfoldable pub role_for : Core → List ℕ → Role
+role_for c f = pick (framed f) (role_in c.settings (data_of f)) NoFile
+
+unfoldable pub checked_of : Bool → Core → List ℕ → Checked
+checked_of o c f = record { status = status_for o c f; maced = maced_for o c f; role = role_for c f }
 
 -- whether an accepted frame's command carries a MAC, and the role of the file that it names
 abbrev pub admitted_of : Bool → Core → List ℕ → Admitted

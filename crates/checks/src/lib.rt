@@ -4,7 +4,7 @@
 ghost use Rattle.std.specs.Prelude.{◌≡◌, IfOk};
 ghost use Rattle.rows.specs.State.{core_of};
 ghost use Rattle.rows.specs.Rows.{status_for, bytes_status};
-ghost use Rattle.checks.specs.Order.{word_of, told, frame_order, in_order, admitted_of};
+ghost use Rattle.checks.specs.Order.{word_of, told, left_by, nameless, frame_order, in_order, checked_of, admitted_of};
 
 use chains::Chain;
 use channel::Channel;
@@ -53,6 +53,28 @@ pub struct Admitted {
     pub role: Role,
 }
 
+// What the order of checks refuses with: the status, whether the refused frame's command carries a MAC, and the role of the file
+// that it names.
+#[derive(Clone, Copy)]
+pub struct Refused {
+    pub status: Status,
+    pub maced: bool,
+    pub role: Role,
+}
+
+// A frame that is refused at places 1 to 4 names no command and no file.
+impl From<Status> for Refused {
+    ghost from_gives = { λ status refused. refused ≡ nameless status };
+
+    fn from(status: Status) -> Refused {
+        Refused {
+            status,
+            maced: false,
+            role: Role::NoFile,
+        }
+    }
+}
+
 // Places 1 to 4: the first that applies names the status.
 fn frame_order(faults: Faults) -> Result<(), Status>
     ensures { told result ≡ frame_order faults.size faults.class faults.parameters faults.frame }
@@ -94,19 +116,25 @@ pub fn check(
     log: Log,
     channel: Channel,
     frame: &[u8],
-) -> Result<Admitted, Status>
-    ensures status { told result ≡ status_for opening (core_of settings keys purse log channel) frame.now }
+) -> Result<Admitted, Refused>
+    ensures checked { left_by result ≡ checked_of opening (core_of settings keys purse log channel) frame.now }
+    ensures status { (left_by result).status ≡ status_for opening (core_of settings keys purse log channel) frame.now }
     ensures admitted { IfOk result (λ a. a ≡ admitted_of opening (core_of settings keys purse log channel) frame.now) }
 {
     frame_order(Faults::asked(frame))?;
     let ins = wire::byte_at(frame, 1);
     let x = frames::data(frame);
     let places = Places::asked(opening, settings, keys, purse, log, channel, ins, x);
-    command_order(places)?;
-    Ok(Admitted {
-        maced: places.maced,
-        role: places.role,
-    })
+    let maced = places.maced;
+    let role = places.role;
+    match command_order(places) {
+        Ok(_) => Ok(Admitted { maced, role }),
+        Err(status) => Err(Refused {
+            status,
+            maced,
+            role,
+        }),
+    }
 }
 
 // A frame of file bytes: the first of its two reasons.
