@@ -1,6 +1,7 @@
--- The amount against the headroom, in whole numbers: what the limit tests of a rise and of a fall tell. No code is behind it.
-use Rattle.std.specs.Prelude.{◌≡◌, refl, ◌&&◌, ℕ, leb, ℤ, pos, ◌+ℤ◌, ◌-ℤ◌}
-use Rattle.std.proofs.Common.{arith}
+-- The amount against the headroom: what the limit tests of a rise and of a fall tell.
+use Rattle.std.specs.Prelude.{◌≡◌, refl, Bool, true, ◌&&◌, ℕ, leb, ℤ, pos, ◌+ℤ◌, ◌-ℤ◌}
+use Rattle.std.proofs.Common.{arith, sym, ◌∙◌}
+use Rattle.std.proofs.Math.Bool.{false}
 use Rattle.std.specs.Int.Signed.{le_z}
 use Rattle.whole.specs.Parts.{above}
 use Rattle.limits.specs.declared.Limits.{Limits}
@@ -31,3 +32,11 @@ module _ (l : Limits) (p : ℤ) (n : ℕ) where
   pub fall : ((le_z l.lower p && leb n (above (p -ℤ l.lower))) && leb (above (p -ℤ l.upper)) n) ≡ within l (p -ℤ pos n)
   unfolding within
   fall = rw (room l.lower p n, reached l.upper p n, low l.lower p n, high l.upper p n) refl
+
+-- the second test, asked behind the first alone, where both together tell w
+module _ {a x w : Bool} (y : Bool) (e : a ≡ x) (both : (x && y) ≡ w) where
+  pub asked : {b : Bool} → b ≡ y → a ≡ true → b ≡ w
+  asked k t = k ∙ (rw (sym e ∙ t) at both)
+
+  pub unasked : a ≡ false → a ≡ w
+  unasked t = t ∙ (rw (sym e ∙ t) at both)

@@ -1,8 +1,9 @@
 // The limits of the value file: what they hold, and what they hold after a rise or a fall.
 #![tactic(auto, unfolding(crate::specs::Limits::crossed, crate::specs::Limits::within))]
 
-ghost use Rattle.std.specs.Prelude.{◌≡◌, pos, ◌+ℤ◌, ◌-ℤ◌};
+ghost use Rattle.std.specs.Prelude.{◌≡◌, ◌&&◌, leb, pos, ◌+ℤ◌, ◌-ℤ◌};
 ghost use Rattle.std.specs.Int.Signed.{le_z};
+ghost use Rattle.whole.specs.Parts.{above};
 ghost use Rattle.limits.specs.Limits.{crossed, within};
 
 #[derive(Clone, Copy)]
@@ -13,14 +14,16 @@ pub struct Limits {
 
 // Whether low and the amount come to high at most: the amount is at most the headroom from low up to high.
 fn has_room(low: i32, amount: u32, high: i32) -> bool
-    ensures { result ≡ le_z (low +ℤ pos amount) high }
+    ensures headroom { result ≡ (le_z low high && leb amount (above (high -ℤ low))) }
+    ensures sum { result ≡ le_z (low +ℤ pos amount) high }
 {
     low <= high && amount <= high.abs_diff(low)
 }
 
 // Whether low and the amount come to high at least: the amount is at least what low lacks to high.
 fn reaches(low: i32, amount: u32, high: i32) -> bool
-    ensures { result ≡ le_z high (low +ℤ pos amount) }
+    ensures headroom { result ≡ leb (above (high -ℤ low)) amount }
+    ensures sum { result ≡ le_z high (low +ℤ pos amount) }
 {
     high <= low || high.abs_diff(low) <= amount
 }

@@ -1,23 +1,32 @@
--- A value moved by an amount: where the limit test passes, the sum fits 32 bits, and is not saturated.
-use Rattle.std.specs.Prelude.{◌≡◌, Bool, true, ℤ, ◌+ℤ◌}
-use Rattle.std.specs.Int.{w32, saturate_signed}
-use Rattle.std.proofs.Common.{sym, ◌∙◌, arith, SFits, to_z, of_z, to_z-of_z}
+-- A value moved by an amount: where the limit test passes, the sum of 64 bits fits 32 bits too.
+use mathlib.Core.Path.{◌≡◌, ◌∙◌, sym}
+use mathlib.Core.Bool.{Bool, true, false}
+use lib.IntN.{ℤ, ◌+ℤ◌}
+use mir.Syntax.{w32, w64}
+use mir.Val.{SFits, to_z, of_z}
+use mir.Facts.{to_z-of_z}
+use Rattle.whole.specs.Moves.{narrow, wide, Moved}
 use Rattle.limits.specs.declared.Limits.{Limits}
 use Rattle.limits.specs.Limits.{within}
 use Rattle.limits.specs.Laws.{within_fits}
 
-unsaturated : {y : ℤ} → SFits w32 y → saturate_signed w32 y ≡ y
-unsaturated f = grind (arith, f.sfits)
+-- where the limits hold the sum, it fits 32 bits too
+pub record Landed (l : Limits) (p z m : ℤ) : Type 0 where
+  pub holds : within l (p +ℤ z) ≡ true
+  pub sum : Moved p z m
+  pub fits : SFits w32 (to_z w64 (of_z w64 (wide p +ℤ m)))
+  pub to : narrow (to_z w64 (of_z w64 (wide p +ℤ m))) ≡ p +ℤ z
 
--- after a limit test of p moved by z, which answers r
-module _ (l : Limits) (z : ℤ) {p : ℤ} {r : Bool} (f : SFits w32 p) (e : r ≡ within l (to_z w32 (of_z w32 p) +ℤ z)) where
-  answer : within l (p +ℤ z) ≡ r
-  answer = sym (rw (to_z-of_z f) at e)
+-- after a limit test, which answers r
+module _ (l : Limits) {p z m : ℤ} {r : Bool} (k : Moved p z m) (e : r ≡ within l (narrow p +ℤ z)) where
+  answer : r ≡ within l (p +ℤ z)
+  answer = rw (to_z-of_z k.figure) at e
 
-  pub held : r ≡ true → within l (p +ℤ z) ≡ true
-  held t = answer ∙ t
+  pub refused : r ≡ false → within l (p +ℤ z) ≡ false
+  refused t = sym answer ∙ t
 
-  pub landed : SFits w32 l.lower → SFits w32 l.upper → r ≡ true → {s : ℤ} → s ≡ saturate_signed w32 (to_z w32 (of_z w32 p) +ℤ z) → to_z w32 (of_z w32 s) ≡ p +ℤ z
-  landed low high t q =
-      let g = within_fits l (p +ℤ z) low high (held t) in
-      rw (q, to_z-of_z f, unsaturated g) (to_z-of_z g)
+  pub landed : SFits w32 l.lower → SFits w32 l.upper → r ≡ true → Landed l p z m
+  landed fl fu t =
+      let h : within l (p +ℤ z) ≡ true = sym answer ∙ t in
+      let g = within_fits l (p +ℤ z) fl fu h in
+      record { holds = h; sum = k; fits = rw k.to g; to = rw k.to (to_z-of_z g) }

@@ -42,8 +42,8 @@ impl Purse {
         }
     }
 
-    // What Credit and LimitedCredit share: the pending value rises, with `left` left of the allowance. Where the limits hold the
-    // sum it does not saturate, here or in `debit`.
+    // What Credit and LimitedCredit share: the pending value rises, with `left` left of the allowance. The sum is formed in 64
+    // bits, here and in `debit`.
     #[tactic(auto, unfolding(crate::specs::Guarded::raise_in, tables::specs::Choice::pick))]
     fn raise(self, limits: Limits, amount: u32, left: u32) -> Purse
         ensures { result ≡ raise_in limits self amount left }
@@ -52,7 +52,7 @@ impl Purse {
             return self;
         }
         Purse {
-            pending: self.pending.saturating_add_unsigned(amount),
+            pending: (self.pending as i64 + amount as i64) as i32,
             left,
             moved: true,
             ..self
@@ -74,7 +74,7 @@ impl Purse {
             return self;
         }
         Purse {
-            pending: self.pending.saturating_sub_unsigned(amount),
+            pending: (self.pending as i64 - amount as i64) as i32,
             debits: self.debits.saturating_add(amount).min(Purse::LARGEST),
             debited: true,
             moved: true,
