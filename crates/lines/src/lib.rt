@@ -39,6 +39,10 @@ pub fn line_end(text: &[u8], at: usize) -> usize
     if text.len() <= at {
         return at;
     }
+    // An empty line is a power-up, and there may be many: memchr takes three times as long to see one.
+    if text[at] == b'\n' {
+        return at;
+    }
     let rest = &text[at..];
     at + memchr::memchr(b'\n', rest).unwrap_or(rest.len())
 }

@@ -1,4 +1,5 @@
 use Rattle.lines.specs.Lines.{line_length}
+use Rattle.lines.proofs.Characters.{length_end}
 use Rattle.lines.proofs.Laws.{length_none, length_most, length_searched}
 use Prim.Native.Nat.{◌+◌, ◌-◌}
 use lib.ListN.{length, drop, length-drop}
@@ -17,6 +18,11 @@ searched k =
 
 pub returns-then-text-at : goal.returns-then-text-at
 returns-then-text-at c = let a = c.args in sym (ap (λ n. a.at + n) (length_none a.text.now a.at c.if-text-at.true) ∙ add-zero a.at)
+
+pub returns-then-text-at-eq10 : goal.returns-then-text-at-eq10
+returns-then-text-at-eq10 c =
+    let a = c.args in
+    sym (ap (λ n. a.at + n) (length_end a.text.now a.at (omega arith) c.if-text-at-eq10.true) ∙ add-zero a.at)
 
 pub overflow_add-result : goal.overflow_add-result
 overflow_add-result c =

@@ -1,11 +1,10 @@
 use Rattle.wire.specs.Bytes.{laid}
 use Rattle.wire.proofs.Laws.{laid_room, laid_short}
-use lib.ListN.{length, take, drop}
-use mathlib.Core.List.{append_assoc}
-use lib.Seq.{drop-drop}
-use Prim.Native.Nat.{◌+◌, ◌-◌}
+use lib.Seq.{paste-zero, paste-suc, take-length}
+use lib.ListN.{length, length-set}
+use native.Mathlib.Numerals.{add-one}
 use native.Mathlib.Omega.{arith}
-use mathlib.Core.Path.{◌≡◌, sym, ◌∙◌}
+use mathlib.Core.Path.{◌≡◌, refl, sym, ◌∙◌}
 use Rattle.wire.proofs.lay.Goals as goal
 
 pub returns-then-dst-src : goal.returns-then-dst-src
@@ -14,12 +13,21 @@ returns-then-dst-src c = let a = c.args in sym (laid_short a.dst.now a.at a.src.
 pub returns-then-dst-src-2 : goal.returns-then-dst-src-2
 returns-then-dst-src-2 c = let a = c.args in sym (laid_short a.dst.now a.at a.src.now (omega arith))
 
+pub loop-i-init : goal.loop-i-init
+loop-i-init c = (refl, paste-zero c.args.dst.now c.args.at c.args.src.now)
+
+pub loop-i-preserved : goal.loop-i-preserved
+loop-i-preserved c =
+    let a = c.args in
+    let v = c.loop-i.invariant in (
+      simp length-set v.0,
+      rw (v.1, add-one) (paste-suc a.dst.now a.at a.src.now c.loop-i.i 0 (omega arith) (omega arith)),
+    )
+
 pub returns : goal.returns
 unfolding laid
 returns c =
     let a = c.args in
-    let n : a.at + length a.src.now - a.at ≡ length a.src.now = omega arith in
-    let p = take a.at a.dst.now in
-    let r = drop (a.at + length a.src.now) a.dst.now in
-    rw (c.copy_from_slice.ensures.after, n, drop-drop (length a.src.now) a.at a.dst.now)
-    (sym (append_assoc p a.src.now r) ∙ sym (laid_room a.dst.now a.at a.src.now (omega arith)))
+    let v = c.loop-i.invariant in
+    let e : c.loop-i.i ≡ length a.src.now = omega arith in
+    v.1 ∙ rw (e, take-length) (sym (laid_room a.dst.now a.at a.src.now (omega arith)))
