@@ -78,10 +78,6 @@ access_to s k i r = access_by s (rights_of s r) k i
 
 -- ---- what an order must not have
 
--- the five files, in the order of their roles
-abbrev pub files_of : Settings → List FileSettings
-files_of s = s.first ∷ s.second ∷ s.short ∷ s.value ∷ s.log ∷ []
-
 -- a rights nibble is 5 to Dh
 unfoldable pub rights_broken : Settings → Bool
 rights_broken s =

@@ -2,7 +2,7 @@
 #![tactic(auto)]
 
 ghost use Rattle.std.specs.Prelude.{◌≡◌};
-ghost use Rattle.settings.specs.Settings.{unchosen, absent, alike, file_at, role_of, named_by, nothing, access_by, files_of, rights_broken, number_above, number_twice};
+ghost use Rattle.settings.specs.Settings.{unchosen, absent, alike, file_at, role_of, named_by, nothing, access_by, rights_broken, number_above, number_twice};
 
 use access::Access;
 use columns::{Row, table};
@@ -163,21 +163,20 @@ impl Settings {
         )
     }
 
-    // The five files in the order of their roles.
-    fn files(self) -> [FileSettings; 5]
-        ensures { result ≡ files_of self }
-    {
-        [self.first, self.second, self.short, self.value, self.log]
-    }
-
     // Whether a rights nibble is 5 to Dh.
     #[tactic(auto, unfolding(crate::specs::Settings::rights_broken))]
     pub fn has_wrong_rights(self) -> bool
         ensures { result ≡ rights_broken self }
     {
-        self.files()
-            .iter()
-            .any(|file| !access::rights_are_sound(file.rights))
+        [
+            self.first.rights,
+            self.second.rights,
+            self.short.rights,
+            self.value.rights,
+            self.log.rights,
+        ]
+        .iter()
+        .any(|rights| !access::rights_are_sound(*rights))
     }
 
     // Whether a file's number is above 1Fh.
@@ -185,9 +184,15 @@ impl Settings {
     pub fn has_number_above(self) -> bool
         ensures { result ≡ number_above self }
     {
-        self.files()
-            .iter()
-            .any(|file| FileSettings::LARGEST_NUMBER < file.number)
+        [
+            self.first.number,
+            self.second.number,
+            self.short.number,
+            self.value.number,
+            self.log.number,
+        ]
+        .iter()
+        .any(|number| FileSettings::LARGEST_NUMBER < *number)
     }
 
     // Whether two files have the same number. The ten pairs stand as a list: two loops would say less, and ask each with a branch.
